@@ -1,10 +1,9 @@
 -- What one byte, or one whole run, does to the words of a text.
-use Rattle.std.proofs.Common.{◌≡◌, ℕ, ◌+◌, Bool, true, false, not, ◌&&◌, ◌||◌, ◌<◌, ◌≤◌, ◌≢◌, append-nil, List, [], ◌∷◌, ◌++◌, length, get_or, take, drop, refl, ap, ◌∙◌, arith, sym, cond, add-one, drop-cons, eq-eqb}
-use Rattle.std.proofs.lemmas.List.{take-append-drop, drop-drop, map-append}
+use Rattle.std.proofs.Common.{◌≡◌, ℕ, ◌+◌, Bool, true, false, ◌&&◌, ◌≤◌, ◌≢◌, append-nil, List, [], ◌∷◌, ◌++◌, length, take, drop, refl, ap, ◌∙◌, arith, sym, cond, eq-eqb}
+use Rattle.std.proofs.lemmas.List.{take-append-drop, map-append}
 use Rattle.std.proofs.Common.{zero, suc, map, append_assoc}
 use Rattle.c_lex.specs.declared.split.Word.{Word}
-use Rattle.std.proofs.lemmas.Grind.{common_steps}
-use Rattle.std.specs.Prelude.{◌==◌, if◌then◌else◌}
+use Rattle.std.specs.Prelude.{◌==◌}
 use Rattle.std.proofs.lemmas.Bool.Decides.{nat_tests}
 use Rattle.c_lex.specs.Words.{Seen, words_of, lengthened, begins_word, byte_of_word, is_blank, IsRun, seen}
 

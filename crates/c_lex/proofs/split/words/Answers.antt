@@ -1,6 +1,4 @@
-use Rattle.std.proofs.Common.{◌≡◌, ℕ, length, map, drop, take, List, [], ◌∷◌, ◌++◌, arith, ap, ◌∙◌, sym, subst, append-nil}
-use Rattle.std.proofs.lemmas.Grind.{common_steps}
-use Rattle.c_lex.specs.Words.{byte_of_word, is_blank, seen, words_of, begins_word, IsRun}
+use Rattle.std.proofs.Common.{arith, ◌∙◌, sym}
 use Rattle.c_lex.proofs.Steps.{after_newline, after_blank, after_sign, after_run, pushed, kept, all_found}
 use Rattle.c_lex.proofs.split.words.Goals as goal
 
@@ -40,7 +38,7 @@ loop-byte-preserved c =
       lines = omega (arith, p.back_len);
       words = rw (p.back) (pushed _ _ _ _ _ _ c.loop-byte.invariant.words c.in_ok-push-2.ensures.items
           (rw (p.front) (after_sign _ _ _ _ h.0 c.if-byte-eq10.false (sym c.is_blank_byte.ensures ∙ c.if-is_blank_byte.false)
-              (sym c.is_word_byte.ensures ∙ c.if-is_word_byte.false))));
+          (sym c.is_word_byte.ensures ∙ c.if-is_word_byte.false))));
     }
 
 pub returns : goal.returns
