@@ -7,6 +7,8 @@ mod memory;
 mod outside;
 mod run;
 mod streams;
+#[cfg(test)]
+mod tests;
 mod writing;
 
 pub use form::{FormStop, read_form};
