@@ -4,8 +4,8 @@ use Rattle.std.specs.List.{list_any}
 use Rattle.std.specs.Str.{bytes_eq}
 use Rattle.std.proofs.lemmas.Simd.{map-map}
 use lib.Chars.{codes}
-use Rattle.c_lex.specs.declared.split.Word.{Word}
-use Rattle.c_lex.specs.Words.{Seen, seen}
+use Rattle.c_words.specs.declared.split.Word.{Word}
+use Rattle.c_words.specs.Words.{Seen, seen}
 use Rattle.normal_form.specs.declared.tree.Expr.{Expr}
 use Rattle.eva_front.specs.Form.{IsSpelled, begins_name, function_name, reserved, spell_rest, text_of, texts, lines}
 

@@ -7,8 +7,8 @@ use Rattle.std.specs.List.{list_any, All}
 use Rattle.std.specs.Str.{bytes_eq}
 use denote.Ref.{Bor}
 use lib.Chars.{codes}
-use Rattle.c_lex.specs.declared.split.Word.{Word}
-use Rattle.c_lex.specs.Words.{Seen, seen, byte_of_word, is_blank, words_of}
+use Rattle.c_words.specs.declared.split.Word.{Word}
+use Rattle.c_words.specs.Words.{Seen, seen, byte_of_word, is_blank, words_of}
 use Rattle.normal_form.specs.declared.tree.BinOp.{BinOp}
 use Rattle.normal_form.specs.declared.tree.BinOp.TheVariants.{Add, Sub, Mul, Div}
 use Rattle.normal_form.specs.declared.tree.Expr.{Expr}

@@ -10,7 +10,7 @@ ghost use Rattle.normal_form.specs.Lawful.{HasIntConstants};
 ghost use Rattle.eva_front.specs.Form.{HasForm, IsPermitted, IsSpelled, begins_name, begins_number, form_byte, function_name, lines, now_texts, reserved, sign, spell_rest, texts};
 ghost use Rattle.eva_front.specs.declared.form.FormStop.TheVariants.{Memory as WantOfMemory};
 
-use c_lex::{Word, is_word_byte, words};
+use c_words::{Word, is_word_byte, words};
 use normal_form::{BinOp, Definition, Expr, Name};
 use std::alloc::{AllocError, Global};
 use thiserror::Error;

@@ -1,6 +1,6 @@
 use Rattle.std.proofs.Common.{◌≡◌, List, ℕ, ◌∙◌, ap, sym, map, subst, Some}
 use Rattle.std.specs.List.{slice_get}
-use Rattle.c_lex.specs.Words.{Seen, words_of}
+use Rattle.c_words.specs.Words.{Seen, words_of}
 use Rattle.eva_front.specs.Form.{IsSpelled, lines, texts}
 use Rattle.eva_front.proofs.Forms.{texts_seen, lines_seen}
 use Rattle.eva_front.proofs.form.read_form.Goals as goal

@@ -2,10 +2,10 @@
 use Rattle.std.proofs.Common.{◌≡◌, ℕ, ◌+◌, Bool, true, false, ◌&&◌, ◌≤◌, ◌≢◌, append-nil, List, [], ◌∷◌, ◌++◌, length, take, drop, refl, ap, ◌∙◌, arith, sym, cond, eq-eqb}
 use Rattle.std.proofs.lemmas.List.{take-append-drop, map-append}
 use Rattle.std.proofs.Common.{zero, suc, map, append_assoc}
-use Rattle.c_lex.specs.declared.split.Word.{Word}
+use Rattle.c_words.specs.declared.split.Word.{Word}
 use Rattle.std.specs.Prelude.{◌==◌}
 use Rattle.std.proofs.lemmas.Bool.Decides.{nat_tests}
-use Rattle.c_lex.specs.Words.{Seen, words_of, lengthened, begins_word, byte_of_word, is_blank, IsRun, seen}
+use Rattle.c_words.specs.Words.{Seen, words_of, lengthened, begins_word, byte_of_word, is_blank, IsRun, seen}
 
 pub words_newline : (line b : ℕ) (rest : List ℕ) → (b == 10) ≡ true → words_of line (b ∷ rest) ≡ words_of (line + 1) rest
 unfolding words_of

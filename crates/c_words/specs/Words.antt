@@ -2,7 +2,7 @@
 -- line of each.
 use Rattle.std.specs.Prelude.{◌≡◌, ℕ, ◌+◌, Bool, true, false, ◌&&◌, ◌||◌, ◌==◌, if◌then◌else◌, List, [], ◌∷◌}
 use Rattle.std.specs.Char.{is_ascii_alphanumeric}
-use Rattle.c_lex.specs.declared.split.Word.{Word}
+use Rattle.c_words.specs.declared.split.Word.{Word}
 
 -- a blank, a tab or a newline
 abbrev pub is_blank : ℕ → Bool

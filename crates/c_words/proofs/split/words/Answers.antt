@@ -1,6 +1,6 @@
 use Rattle.std.proofs.Common.{arith, ◌∙◌, sym}
-use Rattle.c_lex.proofs.Steps.{after_newline, after_blank, after_sign, after_run, pushed, kept, all_found}
-use Rattle.c_lex.proofs.split.words.Goals as goal
+use Rattle.c_words.proofs.Steps.{after_newline, after_blank, after_sign, after_run, pushed, kept, all_found}
+use Rattle.c_words.proofs.split.words.Goals as goal
 
 pub loop-byte-preserved-then-is_word_byte : goal.loop-byte-preserved-then-is_word_byte
 loop-byte-preserved-then-is_word_byte c =

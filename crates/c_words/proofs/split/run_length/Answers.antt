@@ -1,7 +1,7 @@
 use Rattle.std.proofs.Common.{sym, ◌∙◌}
 use Rattle.std.proofs.lemmas.List.{take_more}
-use Rattle.c_lex.proofs.Steps.{run_more}
-use Rattle.c_lex.proofs.split.run_length.Goals as goal
+use Rattle.c_words.proofs.Steps.{run_more}
+use Rattle.c_words.proofs.split.run_length.Goals as goal
 
 pub loop-i-preserved : goal.loop-i-preserved
 loop-i-preserved c =

@@ -1,6 +1,6 @@
 use Rattle.std.proofs.Common.{length, ◌≡◌, ◌≤◌, ◌+◌, ◌++◌, map}
-use Rattle.c_lex.specs.Words.{seen, words_of}
-use Rattle.c_lex.proofs.split.words.Given as goal
+use Rattle.c_words.specs.Words.{seen, words_of}
+use Rattle.c_words.proofs.split.words.Given as goal
 
 abbrev pub invariant-loop-byte : goal.invariant-loop-byte
 invariant-loop-byte l = record {

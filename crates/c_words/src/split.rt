@@ -1,5 +1,5 @@
 ghost use Rattle.std.specs.Prelude.{◌≡◌, ℕ, ◌^◌, ◌<◌, ◌≤◌, ◌+◌, ◌-◌, false, length, map, take, drop, IfOk};
-ghost use Rattle.c_lex.specs.Words.{byte_of_word, is_blank, seen, words_of, begins_word, IsRun};
+ghost use Rattle.c_words.specs.Words.{byte_of_word, is_blank, seen, words_of, begins_word, IsRun};
 
 use std::alloc::{AllocError, Global};
 
