@@ -8,9 +8,8 @@ mod adapters;
 
 use adapters::{FileSource, WriterSink};
 use eva_front::{Sink, Status, run_eva};
-use std::io;
 use std::process::ExitCode;
-use std::{env, iter};
+use std::{env, io, iter};
 
 /// The words behind the program's name. Words that aren't text count as no words.
 fn read_words(rt: &HostRuntime) -> Result<Vec<String>, Status> {

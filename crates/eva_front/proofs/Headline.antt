@@ -226,8 +226,8 @@ module _ (call : Call) where
       text_of_run (by_run b bytes e s h some gives form' run' w) k =
           let same = run_here b bytes e s some gives form' run' in
           let text : report_text b.file (norm e) s ≡ report_text c.file (norm d) r =
-              ap (λ (x : Command). report_text x.file (norm e) s) same.0 ∙ ap (λ (x : Definition). report_text c.file (norm x) s) same.1
-              ∙ ap (λ (x : EntryResult). report_text c.file (norm d) x) same.2 in
+          ap (λ (x : Command). report_text x.file (norm e) s) same.0 ∙ ap (λ (x : Definition). report_text c.file (norm x) s) same.1
+          ∙ ap (λ (x : EntryResult). report_text c.file (norm d) x) same.2 in
           subst (λ (t : List ℕ). Appends call.written_before call.written_after t) text w
       text_of_run (by_memory h) k = absurd (omega arith)
       text_of_run (by_sink h rose) k = absurd (omega arith)

@@ -15,18 +15,24 @@ pub put_more : (before now new : Option (List ℕ)) (text : List ℕ) (done n : 
     Appends now new (take n (drop done text)) → Appends before new (take (done + n) text)
 put_more before now None text done n h k = tt
 put_more before now (Some w) text done n h k =
-    let h' : Appends before (Some k.0) (take done text) = subst (λ (o : Option (List ℕ)). Appends before o (take done text)) k.1 h in
-    (h'.0, h'.1, k.2 ∙ ap (λ (t : List ℕ). t ++ take n (drop done text)) h'.2 ∙ append_assoc h'.0 (take done text) (take n (drop done text))
-        ∙ ap (λ (t : List ℕ). h'.0 ++ t) (sym (take-add done n text)))
+    let h' : Appends before (Some k.0) (take done text) = subst (λ (o : Option (List ℕ)). Appends before o (take done text)) k.1 h in (
+      h'.0,
+      h'.1,
+      k.2 ∙ ap (λ (t : List ℕ). t ++ take n (drop done text)) h'.2 ∙ append_assoc h'.0 (take done text) (take n (drop done text))
+          ∙ ap (λ (t : List ℕ). h'.0 ++ t) (sym (take-add done n text)),
+    )
 
 -- a call of a source that read n bytes
 pub read_more : (before now new : Option (List ℕ)) (bytes buffer : List ℕ) (n : ℕ) → ReadSoFar before now bytes → Takes now new n buffer →
     ReadSoFar before new (bytes ++ take n buffer)
 read_more None now new bytes buffer n h k = tt
 read_more (Some all) now new bytes buffer n h k =
-    let t : TakesBytes h.0 new n buffer = subst (λ (o : Option (List ℕ)). Takes o new n buffer) h.1 k in
-    (drop n h.0, t.rest, h.2 ∙ ap (λ (s : List ℕ). bytes ++ s) (sym (take-append-drop n h.0)) ∙ sym (append_assoc bytes (take n h.0) (drop n h.0))
-        ∙ ap (λ (s : List ℕ). (bytes ++ s) ++ drop n h.0) (sym t.front))
+    let t : TakesBytes h.0 new n buffer = subst (λ (o : Option (List ℕ)). Takes o new n buffer) h.1 k in (
+      drop n h.0,
+      t.rest,
+      h.2 ∙ ap (λ (s : List ℕ). bytes ++ s) (sym (take-append-drop n h.0)) ∙ sym (append_assoc bytes (take n h.0) (drop n h.0))
+          ∙ ap (λ (s : List ℕ). (bytes ++ s) ++ drop n h.0) (sym t.front),
+    )
 
 -- at the end of the file all of it is read
 pub read_all : (before now new : Option (List ℕ)) (bytes buffer : List ℕ) → ReadSoFar before now bytes → Takes now new 0 buffer → 0 < length buffer →

@@ -31,7 +31,7 @@ pub live_text : (name value : List ℕ) →
     ≡ ended (codes "end of " ++ name ++ codes ":") ++ (ended (codes "  \\result = " ++ value) ++ [])
 live_text name value =
     ap (λ t. codes "end of " ++ t) (ap (λ t. name ++ (codes ":\n  \\result = " ++ t)) (sym (append-nil (value ++ 10 ∷ [])))
-        ∙ sym (behind_line name (codes "  \\result = " ++ ((value ++ 10 ∷ []) ++ []))))
+    ∙ sym (behind_line name (codes "  \\result = " ++ ((value ++ 10 ∷ []) ++ []))))
 
 pub first_text : (name turns : List ℕ) → codes "entry " ++ (name ++ (codes ": complete, " ++ (turns ++ codes " turns\n"))) ≡ ended (codes "entry " ++ name ++ codes ": complete, " ++ turns ++ codes " turns")
 first_text name turns = simp append_assoc
@@ -44,8 +44,8 @@ pub whole_text : (first : List ℕ) (alarms end : List (List ℕ)) (last : List 
     ((ended first ++ text_of_lines alarms) ++ text_of_lines end) ++ ended last ≡ text_of_lines (first ∷ (alarms ++ (end ++ last ∷ [])))
 whole_text first alarms end last =
     sym (ap (λ t. ended first ++ t)
-        (text_append alarms (end ++ last ∷ []) ∙ ap (λ t. text_of_lines alarms ++ t) (text_append end (last ∷ []) ∙ ap (λ t. text_of_lines end ++ t) (append-nil (ended last))))
-        ∙ simp append_assoc)
+    (text_append alarms (end ++ last ∷ []) ∙ ap (λ t. text_of_lines alarms ++ t) (text_append end (last ∷ []) ∙ ap (λ t. text_of_lines end ++ t) (append-nil (ended last))))
+    ∙ simp append_assoc)
 
 -- one line more is written
 pub alarms_more : {A : Type 0} (f : A → List ℕ) (xs : List A) (i : ℕ) (d : A) (old new line : List ℕ) → i < length xs →

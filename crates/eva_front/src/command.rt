@@ -28,5 +28,9 @@ pub fn read_command(words: &[String]) -> Option<Command<'_>>
         && is_plain_word(file)
         && is_plain_word(entry)
         && !file.as_bytes().starts_with(b"gen:");
-    if is_command { Some(Command { file, entry }) } else { None }
+    if is_command {
+        Some(Command { file, entry })
+    } else {
+        None
+    }
 }

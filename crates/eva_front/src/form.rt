@@ -99,7 +99,10 @@ fn is_form_byte(byte: u8) -> bool
     ensures { result ≡ form_byte byte }
 {
     is_word_byte(byte)
-        || matches!(byte, b' ' | b'\t' | b'\n' | b'(' | b')' | b'{' | b'}' | b';' | b'+' | b'-' | b'*' | b'/')
+        || matches!(
+            byte,
+            b' ' | b'\t' | b'\n' | b'(' | b')' | b'{' | b'}' | b';' | b'+' | b'-' | b'*' | b'/'
+        )
 }
 
 /// Whether a name may begin as this one does.
@@ -170,7 +173,11 @@ fn behind<'a>(words: &'a [Word<'a>], wanted: &[&[u8]]) -> Option<&'a [Word<'a>]>
         return Some(words);
     };
     let (word, rest) = words.split_first()?;
-    if word.text == *text { behind(rest, more) } else { None }
+    if word.text == *text {
+        behind(rest, more)
+    } else {
+        None
+    }
 }
 
 /// Whether the words are `;` and `}`.
@@ -223,7 +230,9 @@ fn read_words(words: &[Word], name: &[u8]) -> Option<(Expr, u32)>
 fn is_permitted(file: &[u8], entry: &str) -> bool
     ensures { IsTrue result ↔ IsPermitted file.now entry.now }
 {
-    file.len() <= LONGEST_FILE && file.iter().all(|byte| is_form_byte(*byte)) && is_function_name(entry)
+    file.len() <= LONGEST_FILE
+        && file.iter().all(|byte| is_form_byte(*byte))
+        && is_function_name(entry)
 }
 
 /// The definition that the file is. `Form` exactly where it is none of the entry's name, whatever its value; `Memory`
@@ -255,9 +264,18 @@ mod tests {
     fn reads_the_form(rt: HostRuntime) -> Result<(), Fail> {
         let alloc = rt.alloc();
         let texts: [(&str, Option<(Expr, u32)>); 12] = [
-            ("int f(void){return 6/4;}", Some((Expr::Binary(BinOp::Div, 6, 4), 1))),
-            ("int f ( void )\n{\n\treturn 0 ;\n}\n", Some((Expr::Const(0), 3))),
-            ("int f(void){return 2147483647-10;}", Some((Expr::Binary(BinOp::Sub, 2_147_483_647, 10), 1))),
+            (
+                "int f(void){return 6/4;}",
+                Some((Expr::Binary(BinOp::Div, 6, 4), 1)),
+            ),
+            (
+                "int f ( void )\n{\n\treturn 0 ;\n}\n",
+                Some((Expr::Const(0), 3)),
+            ),
+            (
+                "int f(void){return 2147483647-10;}",
+                Some((Expr::Binary(BinOp::Sub, 2_147_483_647, 10), 1)),
+            ),
             ("int f(void){return 2147483648;}", None),
             ("int f(void){return 010;}", None),
             ("int f(void){return +1;}", None),

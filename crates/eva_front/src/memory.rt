@@ -22,7 +22,11 @@ fn find<'a>(files: &'a [(&'a str, &'a [u8])], name: &str) -> Option<&'a [u8]>
     ensures { held result ≡ bytes_of files.now name.now }
 {
     let ((first, bytes), rest) = files.split_first()?;
-    if *first == name { Some(*bytes) } else { find(rest, name) }
+    if *first == name {
+        Some(*bytes)
+    } else {
+        find(rest, name)
+    }
 }
 
 impl<'a> Source for SureFiles<'a> {

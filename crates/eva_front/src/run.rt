@@ -130,7 +130,12 @@ fn say<S: Source, K: Sink>(alloc: Global, words: &[String], source: &mut S, sink
 /// - 3: the file isn't of the form.
 /// - 5 and 6: a call of the source, or of the sink, failed; at 6 a prefix of the text went out.
 /// - 7: memory is wanting.
-pub fn run_eva<S: Source, K: Sink>(alloc: Global, words: &[String], source: &mut S, sink: &mut K) -> u8
+pub fn run_eva<S: Source, K: Sink>(
+    alloc: Global,
+    words: &[String],
+    source: &mut S,
+    sink: &mut K,
+) -> u8
     requires { IfSome (meaning (map string_bytes words.now)) (λ c. S.open_to source.old c.file) }
     ensures answered { IsAnswered (record { words = map string_bytes words.now; content = S.content source.old; read_before = S.faults source.old; read_after = S.faults source.new; written_before = K.written sink.old; written_after = K.written sink.new; write_before = K.faults sink.old; write_after = K.faults sink.new; status = result }) }
     ensures causes { HasCauses (record { words = map string_bytes words.now; content = S.content source.old; read_before = S.faults source.old; read_after = S.faults source.new; written_before = K.written sink.old; written_after = K.written sink.new; write_before = K.faults sink.old; write_after = K.faults sink.new; status = result }) }

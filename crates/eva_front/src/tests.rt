@@ -108,7 +108,12 @@ fn words_of(alloc: Global, words: &[&str]) -> Result<Vec<String>, AllocError> {
 }
 
 /// The status and the text of a run, where the source's and the sink's calls of these numbers fail.
-fn run(alloc: Global, words: &[&str], file: &str, failing: (u32, u32)) -> Result<(u8, Vec<u8>), AllocError> {
+fn run(
+    alloc: Global,
+    words: &[&str],
+    file: &str,
+    failing: (u32, u32),
+) -> Result<(u8, Vec<u8>), AllocError> {
     let words = words_of(alloc, words)?;
     let mut source = OneFile::new("a.c", file.as_bytes(), failing.0);
     let mut page = SlowPage {
@@ -127,16 +132,30 @@ const USAGE: &str = "usage: eva [--workers N] [--cache N] [--rows N] [--steps N]
 #[test]
 fn answers_with_status_and_text(rt: HostRuntime) -> Result<(), Fail> {
     let divides = "int main(void){return 7/0;}";
-    let divided = "entry main: complete, 1 turns\nalarm a.c:1 division_by_zero in main 0.1\nend of main: none\nentries 1, complete 1, alarms 1, turns 1\n";
-    let overflown = "entry f: complete, 1 turns\nalarm a.c:3 signed_overflow in f 0.1\nend of f: none\nentries 1, complete 1, alarms 1, turns 1\n";
-    let halved = "entry f: complete, 2 turns\nend of f:\n  \\result = {1}\nentries 1, complete 1, alarms 0, turns 2\n";
-    let negative = "entry main: complete, 2 turns\nend of main:\n  \\result = {-3}\nentries 1, complete 1, alarms 0, turns 2\n";
+    let divided =
+        "entry main: complete, 1 turns\nalarm a.c:1 division_by_zero in main 0.1\nend of main: none\nentries 1, complete 1, alarms 1, turns 1\n";
+    let overflown =
+        "entry f: complete, 1 turns\nalarm a.c:3 signed_overflow in f 0.1\nend of f: none\nentries 1, complete 1, alarms 1, turns 1\n";
+    let halved =
+        "entry f: complete, 2 turns\nend of f:\n  \\result = {1}\nentries 1, complete 1, alarms 0, turns 2\n";
+    let negative =
+        "entry main: complete, 2 turns\nend of main:\n  \\result = {-3}\nentries 1, complete 1, alarms 0, turns 2\n";
     let cases: [(&[&str], &str, u8, &str); 12] = [
         (&["a.c", "main"], divides, 1, divided),
         (&["a.c", "f"], "int f(void){return 6/4;}", 0, halved),
-        (&["a.c", "f"], "int f(void)\n{\n  return 2147483647 + 1;\n}\n", 1, overflown),
+        (
+            &["a.c", "f"],
+            "int f(void)\n{\n  return 2147483647 + 1;\n}\n",
+            1,
+            overflown,
+        ),
         (&["a.c", "main"], "int main(void){return 4-7;}", 0, negative),
-        (&["a.c", "f"], "int f(int a){return a;}", 3, "refused: form 1\n"),
+        (
+            &["a.c", "f"],
+            "int f(int a){return a;}",
+            3,
+            "refused: form 1\n",
+        ),
         (&["a.c", "f"], divides, 3, "refused: form 1\n"),
         (&["b.c", "f"], divides, 5, "read fault\n"),
         (&["-a.c", "f"], divides, 2, USAGE),
@@ -159,7 +178,10 @@ fn a_fault_is_answered(rt: HostRuntime) -> Result<(), Fail> {
     for call in 1..=6u32 {
         let (got, bytes) = run(rt.alloc(), &["a.c", "main"], file, (call, 0))?;
         assert_eq!(rt; got, 5, "at call {call}");
-        assert!(rt; bytes.as_slice() == b"read fault\n".as_slice(), "at call {call}");
+        assert!(rt;
+            bytes.as_slice() == b"read fault\n".as_slice(),
+            "at call {call}"
+        );
     }
     for call in 1..=13u32 {
         let (got, bytes) = run(rt.alloc(), &["a.c", "main"], file, (0, call))?;

@@ -83,7 +83,12 @@ fn write_end(alloc: Global, name: &str, end: State) -> Result<String, AllocError
 }
 
 /// The lines of the alarms.
-fn write_alarms(alloc: Global, file: &str, f: &Function, alarms: &[Site]) -> Result<String, AllocError>
+fn write_alarms(
+    alloc: Global,
+    file: &str,
+    f: &Function,
+    alarms: &[Site],
+) -> Result<String, AllocError>
     ensures { IfOk result (λ text. string_bytes text ≡ text_of_lines (map (alarm_line file.now f.now) alarms.now)) }
 {
     let mut text = String::new(alloc);
@@ -109,7 +114,12 @@ fn write_last(alloc: Global, alarms: usize, turns: u64) -> Result<String, AllocE
 }
 
 /// The report on one entry. `Err` only for want of memory.
-pub fn report(alloc: Global, file: &str, f: &Function, r: &EntryResult) -> Result<String, AllocError>
+pub fn report(
+    alloc: Global,
+    file: &str,
+    f: &Function,
+    r: &EntryResult,
+) -> Result<String, AllocError>
     ensures { IfOk result (λ text. string_bytes text ≡ report_text file.now f.now r.now) }
 {
     let name = f.name.as_str();

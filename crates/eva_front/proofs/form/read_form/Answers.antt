@@ -9,9 +9,9 @@ pub returns-in-Some-clause-form : goal.returns-in-Some-clause-form
 returns-in-Some-clause-form c =
     let read = c.in-Some.ensures in
     let ws : texts c.as_slice.result.now ≡ map (λ (w : Seen). w.text) (words_of 1 c.args.file.now) =
-        ap texts c.as_slice.ensures.value ∙ texts_seen _ _ c.in_ok-found.ensures in
+    ap texts c.as_slice.ensures.value ∙ texts_seen _ _ c.in_ok-found.ensures in
     let ls : lines c.as_slice.result.now ≡ map (λ (w : Seen). w.line) (words_of 1 c.args.file.now) =
-        ap lines c.as_slice.ensures.value ∙ lines_seen _ _ c.in_ok-found.ensures in
+    ap lines c.as_slice.ensures.value ∙ lines_seen _ _ c.in_ok-found.ensures in
     record {
       permitted = c.is_permitted.ensures.0 c.if-not-is_permitted.false;
       name = c.in_ok-new-in-Some.ensures;
@@ -23,6 +23,6 @@ returns-in-Some-clause-form c =
 pub returns-clause-refused : goal.returns-clause-refused
 returns-clause-refused c = λ e d h.
     let ws : texts c.as_slice.result.now ≡ map (λ (w : Seen). w.text) (words_of 1 c.args.file.now) =
-        ap texts c.as_slice.ensures.value ∙ texts_seen _ _ c.in_ok-found.ensures in
+    ap texts c.as_slice.ensures.value ∙ texts_seen _ _ c.in_ok-found.ensures in
     c.in-None.ensures d.value (subst (λ (ts : List (List ℕ)). IsSpelled c.as_bytes.result.now d.value ts) (sym ws)
-        (subst (λ (n : List ℕ). IsSpelled n d.value (map (λ (w : Seen). w.text) (words_of 1 c.args.file.now))) (sym c.as_bytes.ensures.value) h.spelled))
+    (subst (λ (n : List ℕ). IsSpelled n d.value (map (λ (w : Seen). w.text) (words_of 1 c.args.file.now))) (sym c.as_bytes.ensures.value) h.spelled))

@@ -9,4 +9,4 @@ pub returns : goal.returns
 returns c =
     c.in_ok-text.ensures.ok ∙ rw (c.in_ok-shown.ensures, c.line_at-line.ensures, c.kind_name-kind.ensures, c.as_str-name.ensures)
     (alarm_text (shown_name c.args.file.now) (decimal (line_of (slice_get c.args.f.now.nodes c.args.site.now.node))) (kind_text c.args.site.now.kind)
-        c.args.f.now.name (decimal c.args.site.now.node) (decimal c.args.site.now.sub))
+    c.args.f.now.name (decimal c.args.site.now.node) (decimal c.args.site.now.sub))
