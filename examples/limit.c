@@ -1,0 +1,4 @@
+int limit(void)
+{
+  return 2147483647 + 1;
+}
