@@ -3,6 +3,7 @@ use Rattle.std.proofs.Common.{◌≡◌, ℕ, zero, suc, ◌+◌, ◌-◌, ◌<�
 use Rattle.std.specs.Prelude.{◌==◌, ◌||◌, ◌&&◌}
 use Rattle.std.proofs.Math.Dec.{eqb-suc-zero}
 use Rattle.c_lex.specs.Bytes.{Text, is_blank, run_from, run, fresh_past}
+use Rattle.c_lex.specs.Literal.{character_len, character_value, characters_from, characters}
 use Rattle.c_lex.specs.Piece.{piece}
 use Rattle.c_lex.specs.Reading.{skipped_len, behind_from, behind}
 
@@ -62,3 +63,28 @@ pub behind_end : (fresh : Bool) (z : Text) → length z ≡ 0 → behind fresh z
 unfolding behind
 behind_end fresh [] h = refl
 behind_end fresh (b ∷ z) h = absurd (omega arith)
+
+-- ---- the bytes of characters
+
+characters_from-drop : (quote n : ℕ) (z : Text) → characters_from quote n z ≡ characters_from quote 0 (drop n z)
+characters_from-drop quote zero z = refl
+characters_from-drop quote (suc n) [] = refl
+characters_from-drop quote (suc n) (b ∷ z) = characters_from-drop quote n z
+
+pub characters_stop : (quote : ℕ) (z : Text) → character_len quote z ≡ 0 → characters quote z ≡ []
+unfolding characters
+characters_stop quote [] h = refl
+characters_stop quote (b ∷ z) h = rw h refl
+
+pub characters_go : (quote : ℕ) (z : Text) (n : ℕ) → character_len quote z ≡ n → 0 < n → n ≤ length z →
+    characters quote z ≡ character_value z ∷ characters quote (drop n z)
+unfolding characters
+characters_go quote [] n e some h = absurd (omega arith)
+characters_go quote (b ∷ z) zero e some h = absurd (omega arith)
+characters_go quote (b ∷ z) (suc m) e some h =
+    rw (e, eqb-suc-zero m) (let s : suc m - 1 ≡ m = omega arith in rw s (ap (λ y. character_value (b ∷ z) ∷ y) (characters_from-drop quote m z)))
+
+pub characters_end : (quote : ℕ) (z : Text) → length z ≡ 0 → characters quote z ≡ []
+unfolding characters
+characters_end quote [] h = refl
+characters_end quote (b ∷ z) h = absurd (omega arith)

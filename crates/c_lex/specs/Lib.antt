@@ -5,3 +5,4 @@ pub mod Line
 pub mod Vocabulary
 pub mod Piece
 pub mod Reading
+pub mod Constant

@@ -87,9 +87,12 @@ characters_from quote (suc left) (b ∷ z) = characters_from quote left z
 characters_from quote zero (b ∷ z) =
     if character_len quote (b ∷ z) == 0 then [] else character_value (b ∷ z) ∷ characters_from quote (character_len quote (b ∷ z) - 1) z
 
+unfoldable pub characters : ℕ → Text → List ℕ
+characters quote z = characters_from quote 0 z
+
 -- the bytes of a string literal without its ending zero (6.4.5p6)
 unfoldable pub string_bytes : Text → List ℕ
-string_bytes w = characters_from 34 0 (drop (prefix w + 1) w)
+string_bytes w = characters 34 (drop (prefix w + 1) w)
 
 -- the byte of a character constant
 unfoldable pub char_byte : Text → ℕ

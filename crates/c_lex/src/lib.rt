@@ -17,6 +17,7 @@ mod tests;
 mod token;
 mod vocabulary;
 
+pub use constant::{IntConstant, Longs, char_value, int_constant, string_bytes};
 pub use error::LexStop;
 pub use scan::tokens;
 pub use token::{Place, Token, TokenKind};

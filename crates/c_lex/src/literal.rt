@@ -1,6 +1,6 @@
 //! Escape sequences, character constants, string literals (C11 6.4.4.4, 6.4.5) and comments (6.4.9).
 
-ghost use Rattle.std.specs.Prelude.{◌≡◌, ◌<◌, ◌≤◌, ◌+◌, ◌^◌, nat_le, length, slice_index, IfSome};
+ghost use Rattle.std.specs.Prelude.{◌≡◌, ◌<◌, ◌≤◌, ◌+◌, ◌^◌, nat_le, length, drop, slice_index, IfSome, IsSome};
 ghost use Rattle.c_lex.specs.Bytes as bytes;
 ghost use Rattle.c_lex.specs.Number as number;
 ghost use Rattle.c_lex.specs.Literal as spec;
@@ -68,7 +68,7 @@ fn escape_len(text: &[u8]) -> usize
 
 /// The length of the character at the front of what stands between such quotes, 0 where none is.
 #[tactic(auto, unfolding(crate::specs::Literal::character_len))]
-fn character_len(quote: u8, text: &[u8]) -> usize
+pub fn character_len(quote: u8, text: &[u8]) -> usize
     ensures value { result ≡ spec.character_len quote text.now }
     ensures within { result ≤ length text.now }
 {
@@ -142,6 +142,7 @@ pub fn char_len(at: usize, text: &[u8]) -> Option<usize>
     requires { at < length text.now }
     ensures value { result ≡ spec.char_len at text.now }
     ensures within { IfSome result (λ len. (0 < len) × (len ≤ length text.now)) }
+    ensures some { IsSome result → 0 < spec.character_len 39 (drop (at + 1) text.now) }
 {
     let len = character_len(b'\'', &text[at + 1..]);
     if len != 0 && byte(text, at + 1 + len) == b'\'' {
@@ -182,6 +183,18 @@ pub fn comment_len(text: &[u8]) -> Option<usize>
     }
 }
 
+/// What digits below 256 write in a base.
+fn byte_of(base: u8, digits: &[u8]) -> u8
+    requires base { 0 < base }
+    requires fits { number.value_of base digits.now ≤ 255 }
+    ensures { result ≡ number.value_of base digits.now }
+{
+    match value_of(base, digits) {
+        Some(value) => value as u8,
+        None => unreachable!(),
+    }
+}
+
 fn escape_byte(b: u8) -> u8
     ensures { result ≡ spec.escape_byte b }
 {
@@ -194,5 +207,36 @@ fn escape_byte(b: u8) -> u8
         b't' => 9,
         b'v' => 11,
         other => other,
+    }
+}
+
+/// The byte that an escape sequence stands for, behind its backslash.
+#[tactic(auto, unfolding(crate::specs::Literal::escape_value, crate::specs::Literal::escape_len))]
+fn escape_value(text: &[u8]) -> u8
+    requires { 0 < spec.escape_len text.now }
+    ensures { result ≡ spec.escape_value text.now }
+{
+    let b = byte(text, 0);
+    if is_simple_escape(b) {
+        return escape_byte(b);
+    }
+    let octal = octal_len(text);
+    if 0 < octal {
+        byte_of(8, &text[..octal])
+    } else {
+        byte_of(16, &text[1..hexadecimal_len(text)])
+    }
+}
+
+/// The byte that the character at the front stands for.
+#[tactic(auto, unfolding(crate::specs::Literal::character_value, crate::specs::Literal::character_len))]
+pub fn character_value(quote: u8, text: &[u8]) -> u8
+    requires { 0 < spec.character_len quote text.now }
+    ensures { result ≡ spec.character_value text.now }
+{
+    match text {
+        [b'\\', rest @ ..] => escape_value(rest),
+        [b, ..] => *b,
+        [] => 0,
     }
 }

@@ -114,7 +114,7 @@ fn digits_at(text: &[u8]) -> usize
 }
 
 #[tactic(auto, unfolding(crate::specs::Number::digits_end))]
-fn digits_end(text: &[u8]) -> usize
+pub fn digits_end(text: &[u8]) -> usize
     ensures value { result ≡ spec.digits_end text.now }
     ensures within { (spec.digits_at text.now ≤ result) × (result ≤ length text.now) }
 {
