@@ -6,3 +6,5 @@ pub mod Vocabulary
 pub mod Piece
 pub mod Reading
 pub mod Constant
+pub mod Laws
+pub mod Rules

@@ -7,6 +7,7 @@
 mod class;
 mod constant;
 mod error;
+mod law;
 mod line;
 mod literal;
 mod number;
@@ -19,5 +20,6 @@ mod vocabulary;
 
 pub use constant::{IntConstant, Longs, char_value, int_constant, string_bytes};
 pub use error::LexStop;
+pub use law::{longest_match, one_reading};
 pub use scan::tokens;
 pub use token::{Place, Token, TokenKind};

@@ -1,0 +1,21 @@
+//! Laws of the definitions: each function's contract is one.
+
+ghost use Rattle.c_lex.specs.Laws.{OneList, OneStop, NeverBoth};
+ghost use Rattle.c_lex.specs.Rules.{IsLongest, IsIdentifier, IsNumber, IsPunctuator, IsComment};
+
+use crate::piece::Piece;
+
+/// A file has at most one list of tokens, at most one stop, and never both.
+pub fn one_reading()
+    ensures list { OneList }
+    ensures stop { OneStop }
+    ensures either { NeverBoth }
+{}
+
+/// Identifiers, numbers, punctuators and comments are the longest that begin at their place.
+pub fn longest_match()
+    ensures word { IsLongest Piece.Word IsIdentifier }
+    ensures number { IsLongest Piece.Number IsNumber }
+    ensures punctuator { IsLongest Piece.Punct IsPunctuator }
+    ensures comment { IsLongest Piece.Comment IsComment }
+{}
