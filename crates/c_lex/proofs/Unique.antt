@@ -30,7 +30,7 @@ some_some o e f a b = cc
 none_some : (o : Option LexStop) (e : LexStop) → o ≡ None → o ≡ Some e → ⊥
 none_some o e a b = cc
 
-no_piece : (s : State) (p : Piece) (n : ℕ) → piece s.fresh [] ≡ Some (p, n) → ⊥
+pub no_piece : (s : State) (p : Piece) (n : ℕ) → piece s.fresh [] ≡ Some (p, n) → ⊥
 no_piece s p n a = let e = piece_none s.fresh in cc
 
 pub one_list : (s : State) (z : Text) (ts us : List Token) → Reads s z ts → Reads s z us → ts ≡ us

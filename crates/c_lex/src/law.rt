@@ -1,6 +1,6 @@
 //! Laws of the definitions: each function's contract is one.
 
-ghost use Rattle.c_lex.specs.Laws.{OneList, OneStop, NeverBoth};
+ghost use Rattle.c_lex.specs.Laws.{OneList, OneStop, NeverBoth, TokensAreSlices};
 ghost use Rattle.c_lex.specs.Rules.{IsLongest, IsIdentifier, IsNumber, IsPunctuator, IsComment};
 
 use crate::piece::Piece;
@@ -18,4 +18,9 @@ pub fn longest_match()
     ensures number { IsLongest Piece.Number IsNumber }
     ensures punctuator { IsLongest Piece.Punct IsPunctuator }
     ensures comment { IsLongest Piece.Comment IsComment }
+{}
+
+/// The tokens of a file stand in it in order, each a slice of its kind.
+pub fn tokens_are_slices()
+    ensures { TokensAreSlices }
 {}
