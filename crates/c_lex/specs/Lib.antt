@@ -8,3 +8,4 @@ pub mod Reading
 pub mod Constant
 pub mod Laws
 pub mod Rules
+pub mod Characters

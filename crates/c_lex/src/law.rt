@@ -1,5 +1,6 @@
 //! Laws of the definitions: each function's contract is one.
 
+ghost use Rattle.c_lex.specs.Characters.{CharactersAreRead, CharactersAreAllRead};
 ghost use Rattle.c_lex.specs.Laws.{OneList, OneStop, NeverBoth, TokensAreSlices};
 ghost use Rattle.c_lex.specs.Rules.{IsLongest, IsIdentifier, IsNumber, IsPunctuator, IsComment};
 
@@ -23,4 +24,10 @@ pub fn longest_match()
 /// The tokens of a file stand in it in order, each a slice of its kind.
 pub fn tokens_are_slices()
     ensures { TokensAreSlices }
+{}
+
+/// The characters of literals are those of C11 6.4.4.4, with their longest escape sequences, and all of those.
+pub fn characters_by_rule()
+    ensures read { CharactersAreRead }
+    ensures all { CharactersAreAllRead }
 {}
