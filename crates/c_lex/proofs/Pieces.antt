@@ -1,7 +1,7 @@
 -- What a piece of each sort says of the text at its place.
 use Rattle.std.proofs.Common.{◌≡◌, ℕ, Bool, true, false, cond, ◌⊎◌, inl, inr, Option, Some, None, refl, sym, ap}
 use Rattle.std.specs.Prelude.{◌==◌, ◌||◌, ◌&&◌, slice_index}
-use Rattle.std.proofs.lemmas.Bool.{eqb-false}
+use Rattle.std.proofs.lemmas.Bool.{eqb-false, eqb-true}
 use Rattle.c_lex.specs.Bytes.{Text, is_blank, is_letter, past}
 use Rattle.c_lex.specs.Number.{begins_number, number_len}
 use Rattle.c_lex.specs.Literal.{prefix, string_len, char_len, comment_len}
@@ -148,3 +148,43 @@ comment_by fresh z n (way7 h) = absurd (let e = (punctuator_of z Comment n h).0 
 
 pub comment_is : (fresh : Bool) (z : Text) (n : ℕ) → piece fresh z ≡ Some (Comment, n) → BeginsComment z × (comment_len z ≡ Some n)
 comment_is fresh z n h = comment_by fresh z n (piece_way fresh z Comment n h)
+
+-- ---- literals
+
+string_of : (z : Text) (n : ℕ) → literal z ≡ Some (Str, n) → (slice_index z (prefix z) ≡ 34) × (string_len (prefix z) z ≡ Some n)
+unfolding literal
+string_of z n h = elim (chosen (slice_index z (prefix z) == 34) _ _ (Some (Str, n)) h) [
+  | inl e ↦ (eqb-true (slice_index z (prefix z)) 34 e.0, (sized Str Str (string_len (prefix z) z) n e.1).1)
+  | inr e ↦ absurd (let f = (sized Char Str (char_len (prefix z) z) n e.1).0 in cc)
+]
+
+char_of : (z : Text) (n : ℕ) → literal z ≡ Some (Char, n) → char_len (prefix z) z ≡ Some n
+unfolding literal
+char_of z n h = elim (chosen (slice_index z (prefix z) == 34) _ _ (Some (Char, n)) h) [
+  | inl e ↦ absurd (let f = (sized Str Char (string_len (prefix z) z) n e.1).0 in cc)
+  | inr e ↦ (sized Char Char (char_len (prefix z) z) n e.1).1
+]
+
+string_by : (fresh : Bool) (z : Text) (n : ℕ) → PieceWay fresh z Str n → literal z ≡ Some (Str, n)
+string_by fresh z n (way1 b h) = absurd (let e = (found Blank Str 1 n h).0 in cc)
+string_by fresh z n (way2 b h) = absurd (let e = (sized Comment Str (comment_len z) n h).0 in cc)
+string_by fresh z n (way3 b h) = absurd (let e = line_of z Str n h in cc)
+string_by fresh z n (way4 b h) = absurd (let e = (found Number Str (number_len z) n h).0 in cc)
+string_by fresh z n (way5 b h) = h
+string_by fresh z n (way6 b h) = absurd (let e = (found Word Str (past class.Word z 0) n h).0 in cc)
+string_by fresh z n (way7 h) = absurd (let e = (punctuator_of z Str n h).0 in cc)
+
+char_by : (fresh : Bool) (z : Text) (n : ℕ) → PieceWay fresh z Char n → literal z ≡ Some (Char, n)
+char_by fresh z n (way1 b h) = absurd (let e = (found Blank Char 1 n h).0 in cc)
+char_by fresh z n (way2 b h) = absurd (let e = (sized Comment Char (comment_len z) n h).0 in cc)
+char_by fresh z n (way3 b h) = absurd (let e = line_of z Char n h in cc)
+char_by fresh z n (way4 b h) = absurd (let e = (found Number Char (number_len z) n h).0 in cc)
+char_by fresh z n (way5 b h) = h
+char_by fresh z n (way6 b h) = absurd (let e = (found Word Char (past class.Word z 0) n h).0 in cc)
+char_by fresh z n (way7 h) = absurd (let e = (punctuator_of z Char n h).0 in cc)
+
+pub string_is : (fresh : Bool) (z : Text) (n : ℕ) → piece fresh z ≡ Some (Str, n) → (slice_index z (prefix z) ≡ 34) × (string_len (prefix z) z ≡ Some n)
+string_is fresh z n h = string_of z n (string_by fresh z n (piece_way fresh z Str n h))
+
+pub char_is : (fresh : Bool) (z : Text) (n : ℕ) → piece fresh z ≡ Some (Char, n) → char_len (prefix z) z ≡ Some n
+char_is fresh z n h = char_of z n (char_by fresh z n (piece_way fresh z Char n h))

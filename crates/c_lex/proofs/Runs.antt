@@ -26,7 +26,7 @@ unfolding run
 run_stops part [] h = refl
 run_stops part (b ∷ z) h = rw h refl
 
-run_goes_by : (part : Text → ℕ) (z : Text) (m : ℕ) → part z ≡ suc m → suc m ≤ length z → run part z ≡ suc m + run part (drop (suc m) z)
+pub run_goes_by : (part : Text → ℕ) (z : Text) (m : ℕ) → part z ≡ suc m → suc m ≤ length z → run part z ≡ suc m + run part (drop (suc m) z)
 unfolding run
 run_goes_by part [] m e h = absurd (omega arith)
 run_goes_by part (b ∷ z) m e h = let r = run_from-drop part m z (omega arith) in rw (e, eqb-suc-zero m) (let s : suc m - 1 ≡ m = omega arith in rw s (omega (arith, r)))

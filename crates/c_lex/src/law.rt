@@ -1,6 +1,6 @@
 //! Laws of the definitions: each function's contract is one.
 
-ghost use Rattle.c_lex.specs.Characters.{CharactersAreRead, CharactersAreAllRead};
+ghost use Rattle.c_lex.specs.Characters.{CharactersAreRead, CharactersAreAllRead, StringsAreRead, CharsAreRead, StringsHaveBytes};
 ghost use Rattle.c_lex.specs.Laws.{OneList, OneStop, NeverBoth, TokensAreSlices};
 ghost use Rattle.c_lex.specs.Rules.{IsLongest, IsIdentifier, IsNumber, IsPunctuator, IsComment};
 
@@ -30,4 +30,11 @@ pub fn tokens_are_slices()
 pub fn characters_by_rule()
     ensures read { CharactersAreRead }
     ensures all { CharactersAreAllRead }
+{}
+
+/// A string literal is characters between quotes, and has their bytes; a character constant is one.
+pub fn literals_by_rule()
+    ensures string { StringsAreRead }
+    ensures char { CharsAreRead }
+    ensures bytes { StringsHaveBytes }
 {}

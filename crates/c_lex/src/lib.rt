@@ -20,6 +20,8 @@ mod vocabulary;
 
 pub use constant::{IntConstant, Longs, char_value, int_constant, string_bytes};
 pub use error::LexStop;
-pub use law::{characters_by_rule, longest_match, one_reading, tokens_are_slices};
+pub use law::{
+    characters_by_rule, literals_by_rule, longest_match, one_reading, tokens_are_slices,
+};
 pub use scan::tokens;
 pub use token::{Place, Token, TokenKind};
