@@ -91,7 +91,6 @@ all_lists p = flat_map lists_of p.functions
 abbrev pub is_static : Program → ℕ → Bool
 is_static p b = not (nat_eq b 0) && not (has (all_lists p) b)
 
-
 -- the bases in life at a node of the function where these inner bases are
 pub data InLife (p : Program) (f : Function) (inner : List ℕ) : ℕ → Type 0 where
   result : f.result ≢ Void → InLife p f inner 0
