@@ -1,0 +1,4 @@
+pub mod Trees
+pub mod Writes
+pub mod Counted
+pub mod Answered
