@@ -1,5 +1,5 @@
 -- The words of a file of the form.
-use Rattle.std.proofs.Common.{◌≡◌, ℕ, Bool, true, false, not, ◌&&◌, List, [], ◌∷◌, ◌++◌, map, refl, ap, ◌∙◌, sym, subst}
+use Rattle.std.proofs.Common.{◌≡◌, ℕ, Bool, true, not, List, ◌∷◌, map, refl, ap, ◌∙◌, sym}
 use Rattle.std.specs.List.{list_any}
 use Rattle.std.specs.Str.{bytes_eq}
 use Rattle.std.proofs.lemmas.Simd.{map-map}
@@ -7,7 +7,7 @@ use lib.Chars.{codes}
 use Rattle.c_words.specs.declared.split.Word.{Word}
 use Rattle.c_words.specs.Words.{Seen, seen}
 use Rattle.normal_form.specs.declared.tree.Expr.{Expr}
-use Rattle.eva_front.specs.Form.{IsSpelled, begins_name, function_name, reserved, spell_rest, text_of, texts, lines}
+use Rattle.eva_front.specs.Form.{IsSpelled, begins_name, function_name, reserved, spell_rest, texts, lines}
 
 pub named : (name : List ℕ) (r : Bool) → begins_name name ≡ true → r ≡ list_any (λ w. bytes_eq w name) reserved → not r ≡ function_name name
 named name r b h = rw (b, h) refl

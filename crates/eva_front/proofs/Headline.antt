@@ -1,12 +1,11 @@
 -- What follows from what the program says and prints.
-use Rattle.std.proofs.Common.{◌≡◌, ◌⊎◌, ℕ, ◌+◌, ◌<◌, ◌≤◌, ◌^◌, List, [], ◌∷◌, ◌++◌, length, take, get_or, zero, suc, map, Option, Some, None, Ok, refl, ap, ◌∙◌, sym, subst, inl, inr, arith}
-use Rattle.std.specs.Prelude.{slice_get, IfSome}
+use Rattle.std.proofs.Common.{◌≡◌, ◌⊎◌, ℕ, ◌<◌, ◌≤◌, List, [], ◌∷◌, length, take, get_or, zero, suc, map, Option, Some, None, refl, ap, ◌∙◌, sym, subst, inl, inr, arith}
+use Rattle.std.specs.Prelude.{IfSome}
 use Rattle.std.specs.List.{Contains}
 use Rattle.std.specs.Fmt.{decimal}
 use Rattle.std.proofs.lemmas.Fmt.{decimal_injective}
 use Rattle.std.proofs.lemmas.List.Elements.{Contains-append_left, Contains-append_right}
 use Rattle.std.proofs.lemmas.List.{take_all, length-take}
-use lib.Chars.{codes}
 use Rattle.normal_form.specs.declared.tree.BinOp.{BinOp}
 use Rattle.normal_form.specs.declared.tree.BinOp.TheVariants.{Add, Sub, Mul, Div}
 use Rattle.normal_form.specs.declared.tree.Expr.{Expr}
@@ -15,18 +14,16 @@ use Rattle.normal_form.specs.declared.tree.Definition.{Definition}
 use Rattle.normal_form.specs.Norm.{norm}
 use Rattle.normal_form.specs.Lawful.{HasIntConstants}
 use Rattle.c_meaning.specs.declared.kind.Site.{Site}
-use Rattle.c_meaning.specs.Execution.{Config, initial, Executes, IsUndefinedAt}
 use Rattle.iterate.specs.declared.entry.EntryResult.{EntryResult}
 use Rattle.iterate.specs.LoneRun.{LoneRun}
-use Rattle.iterate.specs.Sound.{IsSound}
 use Rattle.iterate.proofs.Runs.{unique, lone_run_is_sound}
 use Rattle.eva_front.specs.declared.run.Status.{Status}
-use Rattle.eva_front.specs.declared.run.Status.TheVariants.{Clean, Alarms, Usage, Refused, ReadFault, WriteFault, OutOfMemory}
-use Rattle.eva_front.specs.Answer.{Call, Gives, HasCauses, HasNoForm, IsAnswered, IsFirstPath, IsPrinted, IsReport, IsVerdict, Says, TakesFirstPath, Yields, code, cut, judged, refused, reported, unread, usage, verdict, wanting, whole}
+use Rattle.eva_front.specs.declared.run.Status.TheVariants.{Usage, Refused, ReadFault, OutOfMemory}
+use Rattle.eva_front.specs.Answer.{Call, Gives, HasCauses, HasNoForm, IsAnswered, IsFirstPath, IsPrinted, IsVerdict, Says, TakesFirstPath, Yields, code, cut, judged, refused, reported, unread, usage, verdict, wanting, whole}
 use Rattle.eva_front.specs.Command.{Command, meaning}
 use Rattle.eva_front.specs.Form.{HasForm, IsSpelled, sign, spell, spell_rest}
 use Rattle.eva_front.specs.Outside.{Appends, Rose}
-use Rattle.eva_front.specs.Report.{alarm_line, end_lines, first_line, last_line, report_lines, report_text}
+use Rattle.eva_front.specs.Report.{alarm_line, first_line, report_lines, report_text}
 
 contains_map : {A B : Type 0} (f : A → B) (xs : List A) (x : A) → Contains xs x → Contains (map f xs) (f x)
 contains_map f [] x (k, lt, e) = absurd (omega arith)

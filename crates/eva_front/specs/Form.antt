@@ -1,5 +1,5 @@
 -- Which files have the form `int NAME(void) { return E; }`.
-use Rattle.std.specs.Prelude.{◌≡◌, ℕ, ◌<◌, ◌≤◌, ◌==◌, Bool, true, false, not, ◌&&◌, ◌||◌, List, [], ◌∷◌, ◌++◌, length, map, slice_get, Some}
+use Rattle.std.specs.Prelude.{◌≡◌, ℕ, ◌≤◌, ◌==◌, Bool, true, false, not, ◌&&◌, ◌||◌, List, [], ◌∷◌, length, map, slice_get, Some}
 use Rattle.std.specs.Char.{is_ascii_alphabetic}
 use Rattle.std.specs.Fmt.{decimal}
 use Rattle.std.specs.Int.{is_in_range}
@@ -8,7 +8,7 @@ use Rattle.std.specs.Str.{bytes_eq}
 use denote.Ref.{Bor}
 use lib.Chars.{codes}
 use Rattle.c_words.specs.declared.split.Word.{Word}
-use Rattle.c_words.specs.Words.{Seen, seen, byte_of_word, is_blank, words_of}
+use Rattle.c_words.specs.Words.{byte_of_word, is_blank, words_of}
 use Rattle.normal_form.specs.declared.tree.BinOp.{BinOp}
 use Rattle.normal_form.specs.declared.tree.BinOp.TheVariants.{Add, Sub, Mul, Div}
 use Rattle.normal_form.specs.declared.tree.Expr.{Expr}

@@ -1,6 +1,5 @@
-use Rattle.std.proofs.Common.{sym, ◌∙◌, ap, subst, List, ℕ}
+use Rattle.std.proofs.Common.{sym, ◌∙◌}
 use Rattle.eva_front.proofs.Numbers.{no_text, no_number, other_number, no_begin, spelled}
-use Rattle.std.specs.Str.Parse.{ParsesUnsigned}
 use Rattle.eva_front.proofs.form.number.Goals as goal
 
 pub returns-in_default : goal.returns-in_default

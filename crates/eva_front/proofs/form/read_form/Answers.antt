@@ -1,4 +1,4 @@
-use Rattle.std.proofs.Common.{◌≡◌, List, ℕ, ◌∙◌, ap, sym, map, subst, Some}
+use Rattle.std.proofs.Common.{◌≡◌, List, ℕ, ◌∙◌, ap, sym, map, subst}
 use Rattle.std.specs.List.{slice_get}
 use Rattle.c_words.specs.Words.{Seen, words_of}
 use Rattle.eva_front.specs.Form.{IsSpelled, lines, texts}

@@ -1,4 +1,3 @@
-use Rattle.std.proofs.Common.{ℕ, List, length, take, ◌≤◌}
 use Rattle.eva_front.specs.Answer.{cut}
 use Rattle.eva_front.proofs.run.print.Goals as goal
 

@@ -1,6 +1,5 @@
-use Rattle.std.proofs.Common.{ℕ, List, length, take, drop, arith, subst, length-drop}
+use Rattle.std.proofs.Common.{arith, length-drop}
 use Rattle.std.proofs.lemmas.List.{take_rest}
-use Rattle.eva_front.specs.Outside.{Appends}
 use Rattle.eva_front.proofs.Reading.{put_more}
 use Rattle.eva_front.proofs.streams.put_all.Goals as goal
 

@@ -1,4 +1,4 @@
-use Rattle.std.proofs.Common.{ℕ, List, length, take, drop, arith, subst, ◌<◌, ◌≡◌, sym, ◌∙◌}
+use Rattle.std.proofs.Common.{ℕ, length, arith, subst, ◌<◌}
 use Rattle.std.proofs.lemmas.List.{length-take}
 use Rattle.eva_front.specs.Outside.{Takes}
 use Rattle.eva_front.proofs.Reading.{read_all, read_enough}

@@ -1,4 +1,4 @@
-use Rattle.std.proofs.Common.{List, ℕ, ◌∙◌, ap, map, length}
+use Rattle.std.proofs.Common.{List, ℕ, ◌∙◌, ap, map}
 use Rattle.c_meaning.specs.declared.kind.Site.{Site}
 use Rattle.eva_front.specs.Report.{alarm_line, end_lines, ended, first_line, last_line, text_of_lines}
 use Rattle.eva_front.proofs.Texts.{report_of}
