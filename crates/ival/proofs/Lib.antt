@@ -1,3 +1,4 @@
 pub mod FormLemmas
 pub mod ListLemmas
 pub mod NumberLemmas
+pub mod PairLemmas

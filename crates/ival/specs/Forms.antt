@@ -1,5 +1,5 @@
 -- Integer sets: their forms, their members, and the sets made of lists and of classes.
-use Rattle.std.specs.Prelude.{◌≡◌, ◌<◌, ◌≤◌, ◌+◌, ◌*◌, ◌/◌, ◌^◌, max, ℕ, List, [], ◌∷◌, length, Bool, true, false, ◌&&◌, ℤ, pos, neg_ℤ, ◌+ℤ◌, ◌-ℤ◌, ◌≤ℤ◌, ◌<ℤ◌, int_lt, int_le, nat_eq, nat_lt, nat_le, unsigned_abs, if◌then◌else◌}
+use Rattle.std.specs.Prelude.{◌≡◌, ◌<◌, ◌≤◌, ◌+◌, ◌*◌, ◌/◌, ◌^◌, max, ℕ, ◌-◌, List, [], ◌∷◌, length, get_or, Bool, true, false, ◌&&◌, ℤ, pos, neg_ℤ, ◌+ℤ◌, ◌-ℤ◌, ◌≤ℤ◌, ◌<ℤ◌, int_lt, int_le, nat_eq, nat_lt, nat_le, unsigned_abs, if◌then◌else◌}
 use Rattle.std.specs.List.{All, Contains, list_any}
 use Rattle.std.specs.Ordering.{int_eq}
 use Rattle.ival.specs.Numbers.{distance, residue, gcd}
@@ -73,24 +73,64 @@ hull (x ∷ rest) =
   let kept = ascending (x ∷ rest) in
   if nat_le (length kept) 8 then Set kept else norm (least_of x rest) (greatest_of x rest) x (spread x rest)
 
+-- a set that isn't empty and isn't every number
+abbrev pub HasEnds : Ival → Type 0
+HasEnds Empty = ⊥
+HasEnds (Set xs) = IsMemberList xs
+HasEnds (Range lo hi r m) = IsProgression lo hi r m
+HasEnds Every = ⊥
+
 -- the ends and the step of a set; the step of a single number is 0
 abbrev pub least : Ival → ℤ
 least Empty = pos 0
-least (Set []) = pos 0
-least (Set (x ∷ xs)) = least_of x xs
+least (Set xs) = get_or xs 0 (pos 0)
 least (Range lo hi r m) = lo
 least Every = pos 0
 
 abbrev pub greatest : Ival → ℤ
 greatest Empty = pos 0
-greatest (Set []) = pos 0
-greatest (Set (x ∷ xs)) = greatest_of x xs
+greatest (Set xs) = get_or xs (length xs - 1) (pos 0)
 greatest (Range lo hi r m) = hi
 greatest Every = pos 0
 
 abbrev pub step : Ival → ℕ
 step Empty = 0
-step (Set []) = 0
-step (Set (x ∷ xs)) = spread x xs
+step (Set xs) = spread (get_or xs 0 (pos 0)) xs
 step (Range lo hi r m) = unsigned_abs m
 step Every = 0
+
+abbrev pub is_empty : Ival → Bool
+is_empty Empty = true
+is_empty (Set xs) = false
+is_empty (Range lo hi r m) = false
+is_empty Every = false
+
+abbrev pub is_range : Ival → Bool
+is_range Empty = false
+is_range (Set xs) = false
+is_range (Range lo hi r m) = true
+is_range Every = false
+
+-- ascending numbers as a set
+abbrev pub set_of : List ℤ → Ival
+set_of [] = Empty
+set_of (x ∷ xs) = Set (x ∷ xs)
+
+-- a number that arithmetic takes: from -2^63 to 2^64 - 1
+pub record IsOperandNumber (x : ℤ) : Type 0 where
+  pub above : neg_ℤ (pos (2 ^ 63)) ≤ℤ x
+  pub below : x <ℤ pos (2 ^ 64)
+
+-- each member lies from low to high
+abbrev pub Within : ℤ → ℤ → Ival → Type 0
+Within low high Empty = Unit {0}
+Within low high (Set xs) = All (λ x. (low ≤ℤ x) × (x ≤ℤ high)) xs
+Within low high (Range lo hi r m) = (low ≤ℤ lo) × (hi ≤ℤ high)
+Within low high Every = ⊥
+
+-- a set that arithmetic takes: well-formed, not every number, and each member from -2^63 to 2^64 - 1
+abbrev pub IsOperand : Ival → Type 0
+IsOperand Empty = Unit {0}
+IsOperand (Set xs) = IsMemberList xs × All IsOperandNumber xs
+IsOperand (Range lo hi r m) = IsProgression lo hi r m × IsOperandNumber lo × IsOperandNumber hi
+IsOperand Every = ⊥

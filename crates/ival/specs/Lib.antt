@@ -1,4 +1,7 @@
+pub mod Arithmetic
 pub mod Forms
 pub mod Lists
 pub mod Members
 pub mod Numbers
+pub mod Pairs
+pub mod SetOperations

@@ -5,6 +5,7 @@ mod forms;
 mod hull;
 mod members;
 mod numbers;
+mod pairs;
 mod ranges;
 
 pub use forms::{Cmp, Ival};
