@@ -1,4 +1,6 @@
+pub mod Classes
 pub mod FormLemmas
 pub mod ListLemmas
 pub mod NumberLemmas
 pub mod PairLemmas
+pub mod WellFormed

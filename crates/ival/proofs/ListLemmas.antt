@@ -32,15 +32,15 @@ progression-one x m = refl
 
 -- ---- a number put in its place
 
-insert-before : (x y : ℤ) (rest : List ℤ) → x <ℤ y → insert x (y ∷ rest) ≡ x ∷ y ∷ rest
+pub insert-before : (x y : ℤ) (rest : List ℤ) → x <ℤ y → insert x (y ∷ rest) ≡ x ∷ y ∷ rest
 unfolding insert
 insert-before x y rest h = let t : int_lt x y ≡ true = grind (arith, ints) in rw t refl
 
-insert-known : (x : ℤ) (rest : List ℤ) → insert x (x ∷ rest) ≡ x ∷ rest
+pub insert-known : (x : ℤ) (rest : List ℤ) → insert x (x ∷ rest) ≡ x ∷ rest
 unfolding insert
 insert-known x rest = let t : int_lt x x ≡ false = grind (arith, ints) in rw t refl
 
-insert-after : (x y : ℤ) (rest : List ℤ) → y <ℤ x → insert x (y ∷ rest) ≡ y ∷ insert x rest
+pub insert-after : (x y : ℤ) (rest : List ℤ) → y <ℤ x → insert x (y ∷ rest) ≡ y ∷ insert x rest
 unfolding insert
 insert-after x y rest h =
     let s : int_lt x y ≡ false = grind (arith, ints) in

@@ -3,7 +3,7 @@
 ghost use Rattle.std.specs.Prelude.{◌≡◌, ◌≤◌, ◌<◌, ◌+◌, ◌*◌, ◌++◌, ◌∷◌, [], ℤ, List, Option, length, IfSome, IsNone};
 ghost use Rattle.std.specs.List.{All, filter_map};
 ghost use Rattle.std.specs.Option.{option_to_list};
-ghost use Rattle.ival.specs.Forms.{IsBounded, IsOperand, IsOperandNumber, HasEnds, hull};
+ghost use Rattle.ival.specs.Forms.{IsBounded, IsOperand, IsOperandNumber, IsWellFormed, HasEnds, hull};
 ghost use Rattle.ival.specs.Pairs.{pointwise, results};
 
 use std::marker::Model;
@@ -105,7 +105,8 @@ fn hull_of_results<R: Rule>(rule: &R, xs: &[i128], ys: &[i128]) -> Ival
     requires few_right { length ys.now ≤ 8 }
     requires left { All IsOperandNumber xs.now }
     requires right { All IsOperandNumber ys.now }
-    ensures { result ≡ hull (results (R.of rule.now) xs.now ys.now) }
+    ensures value { result ≡ hull (results (R.of rule.now) xs.now ys.now) }
+    ensures formed { IsWellFormed result }
 {
     let mut found = Numbers::new();
     for x in xs {
@@ -119,6 +120,7 @@ pub fn pointwise<R: Rule>(rule: &R, a: &Ival, b: &Ival) -> Option<Ival>
     requires left { IsOperand a.now }
     requires right { IsOperand b.now }
     ensures value { result ≡ pointwise (R.of rule.now) a.now b.now }
+    ensures formed { IfSome result IsWellFormed }
     ensures ends { IsNone result → HasEnds a.now × HasEnds b.now }
 {
     match (a, b) {

@@ -49,7 +49,8 @@ fn strided(first: i128, last: i128, r: i128, m: u128) -> Ival
 pub fn norm(lo: i128, hi: i128, r: i128, m: u128) -> Ival
     requires low { IsBounded lo }
     requires high { IsBounded hi }
-    ensures { result ≡ norm lo hi r m }
+    ensures value { result ≡ norm lo hi r m }
+    ensures formed { IsWellFormed result }
 {
     let m = m.max(1);
     let up = residue_of_difference(r, lo, m);

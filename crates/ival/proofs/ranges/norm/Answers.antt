@@ -1,13 +1,14 @@
-use Rattle.std.proofs.Common.{arith, ◌∙◌, sym, ap, ◌≡◌, max, ◌-ℤ◌, ◌<ℤ◌}
+use Rattle.std.proofs.Common.{subst, arith, ◌∙◌, sym, ap, ◌≡◌, max, ◌-ℤ◌, ◌<ℤ◌}
 use Rattle.std.proofs.lemmas.Int.{ints, to_z-of_z}
 use Rattle.ival.specs.Numbers.{residue, distance}
-use Rattle.ival.specs.Forms.{last_to, first_from}
+use Rattle.ival.specs.Forms.{IsWellFormed, last_to, first_from}
 use Rattle.ival.proofs.FormLemmas.{norm-strided, norm-empty}
+use Rattle.ival.proofs.WellFormed.{norm-well_formed}
 use Rattle.ival.proofs.ranges.norm.Goals as goal
 use Rattle.ival.proofs.ranges.norm.Goals.{then-hi-lo-via-then-hi-lo, then-hi-lo-via-else-hi-lo+then-abs_diff-up, then-hi-lo-via-else-hi-lo+else-abs_diff-up+then-abs_diff-up-2}
 
-pub returns-then-hi-lo : goal.returns-then-hi-lo
-returns-then-hi-lo c =
+pub returns-then-hi-lo-clause-value : goal.returns-then-hi-lo-clause-value
+returns-then-hi-lo-clause-value c =
     let lo = c.ranges.lo in
     let hi = c.ranges.hi in
     let r = c.ranges.r in
@@ -21,5 +22,9 @@ returns-then-hi-lo c =
       ] in
     norm-empty c.args.lo c.args.hi c.args.r c.args.m c.max-m.result c.max-m.ensures none
 
-pub returns : goal.returns
-returns c = grind (arith, ints, to_z-of_z, norm-strided)
+pub returns-clause-value : goal.returns-clause-value
+returns-clause-value c = grind (arith, ints, to_z-of_z, norm-strided)
+
+pub returns-clause-formed : goal.returns-clause-formed
+returns-clause-formed c =
+    subst IsWellFormed (sym (returns-clause-value c)) (norm-well_formed c.args.lo c.args.hi c.args.r c.args.m c.requires.low c.requires.high)
