@@ -5,7 +5,7 @@ use Rattle.std.proofs.lemmas.Int.{ints}
 use Rattle.std.proofs.lemmas.Nat.{mul-le, div-add-mod'}
 use Rattle.std.proofs.lemmas.Bool.Decides.{nat_tests}
 use Rattle.ival.specs.Numbers.{residue, distance}
-use Rattle.std.specs.Prelude.{List, [], ◌∷◌, length}
+use Rattle.std.specs.Prelude.{List, [], ◌∷◌, length, Option, None, unwrap_or}
 use Rattle.ival.specs.Lists.{progression, ascending, least_of, greatest_of, spread}
 use Rattle.ival.specs.Forms.{strided, norm, hull, first_from, last_to}
 use Rattle.ival.specs.declared.forms.Ival.{Ival}
@@ -71,3 +71,12 @@ hull-many x xs rest e many =
     let t : leb (length (ascending (x ∷ rest))) 8 ≡ false = grind (arith, nat_tests) in
     let right : hull (x ∷ rest) ≡ norm (least_of x rest) (greatest_of x rest) x (spread x rest) = rw t refl in
     sym right ∙ ap hull (sym e)
+
+-- ---- equal arguments
+
+pub norm-equal : (lo hi r lo' hi' r' : ℤ) (m m' : ℕ) → lo ≡ lo' → hi ≡ hi' → r ≡ r' → m ≡ m' → norm lo hi r m ≡ norm lo' hi' r' m'
+norm-equal lo hi r lo' hi' r' m m' p q s t = cc
+
+-- the interval's formula stands where the sets aren't both small
+pub wide : (o : Option Ival) (w v : Ival) → o ≡ None → w ≡ v → w ≡ unwrap_or o v
+wide o w v e p = p ∙ ap (λ (x : Option Ival). unwrap_or x v) (sym e)

@@ -1,7 +1,8 @@
 -- The sets that norm and hull make are well-formed.
 use Rattle.std.proofs.Common.{◌≡◌, ℕ, zero, suc, ◌+◌, ◌-◌, ◌*◌, ◌/◌, ◌%◌, ◌<◌, ◌≤◌, max, List, [], ◌∷◌, length, true, false, ℤ, pos, negsuc, ◌+ℤ◌, ◌-ℤ◌, ◌≤ℤ◌, ◌<ℤ◌, sym, refl, ap, subst, ◌∙◌, arith}
 use Rattle.std.specs.Prelude.{unsigned_abs, int_lt, ◌⊎◌}
-use Rattle.std.specs.List.{All, fold}
+use Rattle.std.specs.Prelude.{Bool, cond}
+use Rattle.std.specs.List.{All, fold, filter}
 use Rattle.std.proofs.Common.{⊎_elim}
 use Rattle.std.proofs.lemmas.Int.{ints, by_lt_z}
 use Rattle.std.proofs.lemmas.Nat.{mod_below, div-add-mod', mul-le}
@@ -9,7 +10,7 @@ use Rattle.std.proofs.lemmas.Bool.{cases_lt}
 use Rattle.std.proofs.lemmas.List.Elements.{All-head, All-tail, All-cons, All-nil, All-weaker}
 use Rattle.ival.specs.Numbers.{residue, distance}
 use Rattle.ival.specs.Lists.{IsAscending, insert, progression, ascending, least_of, greatest_of, spread}
-use Rattle.ival.specs.Forms.{IsBounded, IsMemberList, IsProgression, IsWellFormed, strided, norm, hull, first_from, last_to}
+use Rattle.ival.specs.Forms.{IsBounded, IsMemberList, IsProgression, IsWellFormed, strided, norm, hull, first_from, last_to, set_of}
 use Rattle.ival.proofs.Classes.{residue-same, residue-below, first-congruent, last-congruent}
 use Rattle.ival.proofs.ListLemmas.{length-progression, least_of-one, greatest_of-one, insert-before, insert-after, insert-known, length-insert}
 use Rattle.ival.proofs.FormLemmas.{strided-empty, strided-set, strided-range, norm-strided, norm-empty, few_steps, hull-none, hull-few, hull-many}
@@ -127,3 +128,45 @@ hull-well_formed (x ∷ rest) all =
       (λ many. subst IsWellFormed (hull-many x (x ∷ rest) rest refl many) (norm-well_formed _ _ x (spread x rest) (least_of-one IsBounded x rest (All-head IsBounded x rest all) (All-tail IsBounded x rest all)) (greatest_of-one IsBounded x rest (All-head IsBounded x rest all) (All-tail IsBounded x rest all))))
       (λ few. subst IsWellFormed (hull-few kept (x ∷ rest) (omega arith) refl few) record { some = omega (arith, one.2); few = few; ascending = r.0; bounded = r.1 })
       (cases_lt 8 (length kept))
+
+-- ---- filters
+
+above-trans : (x y : ℤ) (rest : List ℤ) → x <ℤ y → IsAscending (y ∷ rest) → All (λ z. x <ℤ z) (y ∷ rest)
+above-trans x y [] h k = All-cons (λ z. x <ℤ z) y [] h (All-nil (λ z. x <ℤ z))
+above-trans x y (z ∷ rest) h k = All-cons (λ z. x <ℤ z) y (z ∷ rest) h (above-trans x z rest (omega (arith, ints, k.0)) k.1)
+
+ascending-tail : (x : ℤ) (rest : List ℤ) → IsAscending (x ∷ rest) → IsAscending rest × All (λ z. x <ℤ z) rest
+ascending-tail x [] k = (tt, All-nil (λ z. x <ℤ z))
+ascending-tail x (y ∷ rest) k = (k.1, above-trans x y rest k.0 k.1)
+
+ascending-cons : (x : ℤ) (rest : List ℤ) → All (λ z. x <ℤ z) rest → IsAscending rest → IsAscending (x ∷ rest)
+ascending-cons x [] h k = tt
+ascending-cons x (y ∷ rest) h k = (All-head (λ z. x <ℤ z) y rest h, k)
+
+filter-all : (P : ℤ → Type 0) (p : ℤ → Bool) (xs : List ℤ) → All P xs → All P (filter p xs)
+filter-all P p [] h = h
+filter-all P p (x ∷ xs) h =
+    let rest = filter-all P p xs (All-tail P x xs h) in
+    elim (p x) as (λ b. All P (cond b (x ∷ filter p xs) (filter p xs))) [ true ↦ All-cons P x (filter p xs) (All-head P x xs h) rest | false ↦ rest ]
+
+filter-ascending : (p : ℤ → Bool) (xs : List ℤ) → IsAscending xs → IsAscending (filter p xs)
+filter-ascending p [] h = tt
+filter-ascending p (x ∷ xs) h =
+    let t = ascending-tail x xs h in
+    let rest = filter-ascending p xs t.0 in
+    elim (p x) as (λ b. IsAscending (cond b (x ∷ filter p xs) (filter p xs))) [ true ↦ ascending-cons x (filter p xs) (filter-all (λ z. x <ℤ z) p xs t.1) rest | false ↦ rest ]
+
+filter-length : (p : ℤ → Bool) (xs : List ℤ) → length (filter p xs) ≤ length xs
+filter-length p [] = omega arith
+filter-length p (x ∷ xs) =
+    let rest = filter-length p xs in
+    elim (p x) as (λ b. length (cond b (x ∷ filter p xs) (filter p xs)) ≤ suc (length xs)) [ true ↦ omega arith | false ↦ omega arith ]
+
+set_of-well_formed : (xs : List ℤ) → length xs ≤ 8 → IsAscending xs → All IsBounded xs → IsWellFormed (set_of xs)
+set_of-well_formed [] h k all = tt
+set_of-well_formed (x ∷ xs) h k all = record { some = omega arith; few = h; ascending = k; bounded = all }
+
+pub filter-well_formed : (p : ℤ → Bool) (xs : List ℤ) → IsMemberList xs → IsWellFormed (set_of (filter p xs))
+filter-well_formed p xs h =
+    let short = filter-length p xs in
+    set_of-well_formed (filter p xs) (omega (arith, h.few)) (filter-ascending p xs h.ascending) (filter-all IsBounded p xs h.bounded)

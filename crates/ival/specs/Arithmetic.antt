@@ -34,11 +34,11 @@ remainder_of x y = if nat_eq (unsigned_abs y) 0 then None else Some (int_rem x y
 
 -- ---- sums and differences
 
-unfoldable pub add_of : Ival → Ival → Ival
+abbrev pub add_of : Ival → Ival → Ival
 add_of a b = unwrap_or (pointwise sum_of a b)
   (norm (least a +ℤ least b) (greatest a +ℤ greatest b) (least a +ℤ least b) (gcd (step a) (step b)))
 
-unfoldable pub sub_of : Ival → Ival → Ival
+abbrev pub sub_of : Ival → Ival → Ival
 sub_of a b = unwrap_or (pointwise difference_of a b)
   (norm (least a -ℤ greatest b) (greatest a -ℤ least b) (least a -ℤ greatest b) (gcd (step a) (step b)))
 

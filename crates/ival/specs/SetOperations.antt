@@ -13,18 +13,23 @@ joined a b =
   norm (int_min (least a) (least b)) (int_max (greatest a) (greatest b)) (least a)
     (gcd (gcd (step a) (step b)) (distance (least a) (least b)))
 
-unfoldable pub join_of : Ival → Ival → Ival
+abbrev pub join_of : Ival → Ival → Ival
 join_of Empty b = b
 join_of a Empty = a
 join_of Every b = Every
 join_of a Every = Every
 join_of (Set xs) (Set ys) = hull (xs ++ ys)
-join_of a b = joined a b
+join_of (Set xs) (Range lo hi r m) = joined (Set xs) (Range lo hi r m)
+join_of (Range lo hi r m) b = joined (Range lo hi r m) b
+
+-- whether x lies from lo to hi
+abbrev pub is_between : ℤ → ℤ → ℤ → Bool
+is_between lo hi x = int_le lo x && int_le x hi
 
 -- the members from lo to hi
-unfoldable pub trim : Ival → ℤ → ℤ → Ival
+abbrev pub trim : Ival → ℤ → ℤ → Ival
 trim Empty lo hi = Empty
-trim (Set xs) lo hi = set_of (filter (λ x. int_le lo x && int_le x hi) xs)
+trim (Set xs) lo hi = set_of (filter (is_between lo hi) xs)
 trim (Range first last r m) lo hi = norm (int_max first lo) (int_min last hi) r (unsigned_abs m)
 trim Every lo hi = Every
 
