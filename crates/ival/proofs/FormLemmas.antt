@@ -7,7 +7,9 @@ use Rattle.std.proofs.lemmas.Bool.Decides.{nat_tests}
 use Rattle.ival.specs.Numbers.{residue, distance}
 use Rattle.std.specs.Prelude.{List, [], ◌∷◌, length, Option, None, unwrap_or}
 use Rattle.ival.specs.Lists.{progression, ascending, least_of, greatest_of, spread}
-use Rattle.ival.specs.Forms.{strided, norm, hull, first_from, last_to}
+use Rattle.std.specs.Int.{int_min, int_max}
+use Rattle.ival.specs.Arithmetic.{least4, greatest4}
+use Rattle.ival.specs.Forms.{IsBounded, strided, norm, hull, first_from, last_to}
 use Rattle.ival.specs.declared.forms.Ival.{Ival}
 use Rattle.ival.specs.declared.forms.Ival.TheVariants.{Empty, Set, Range}
 
@@ -80,3 +82,17 @@ norm-equal lo hi r lo' hi' r' m m' p q s t = cc
 -- the interval's formula stands where the sets aren't both small
 pub wide : (o : Option Ival) (w v : Ival) → o ≡ None → w ≡ v → w ≡ unwrap_or o v
 wide o w v e p = p ∙ ap (λ (x : Option Ival). unwrap_or x v) (sym e)
+
+int_min-one : (P : ℤ → Type 0) (x y : ℤ) → P x → P y → P (int_min x y)
+int_min-one P x y h k = elim (int_lt y x) as (λ b. P (cond b y x)) [ true ↦ k | false ↦ h ]
+
+int_max-one : (P : ℤ → Type 0) (x y : ℤ) → P x → P y → P (int_max x y)
+int_max-one P x y h k = elim (int_lt y x) as (λ b. P (cond b x y)) [ true ↦ h | false ↦ k ]
+
+pub least4-bounded : (p q r s : ℤ) → IsBounded p → IsBounded q → IsBounded r → IsBounded s → IsBounded (least4 p q r s)
+least4-bounded p q r s a b c d =
+    int_min-one IsBounded (int_min p q) (int_min r s) (int_min-one IsBounded p q a b) (int_min-one IsBounded r s c d)
+
+pub greatest4-bounded : (p q r s : ℤ) → IsBounded p → IsBounded q → IsBounded r → IsBounded s → IsBounded (greatest4 p q r s)
+greatest4-bounded p q r s a b c d =
+    int_max-one IsBounded (int_max p q) (int_max r s) (int_max-one IsBounded p q a b) (int_max-one IsBounded r s c d)

@@ -4,3 +4,5 @@ pub mod ListLemmas
 pub mod NumberLemmas
 pub mod PairLemmas
 pub mod WellFormed
+pub mod ProductLemmas
+pub mod Operands

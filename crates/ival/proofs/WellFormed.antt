@@ -25,13 +25,13 @@ progression-ascending x m zero h = tt
 progression-ascending x m (suc zero) h = tt
 progression-ascending x m (suc (suc n)) h = (omega (arith, ints), progression-ascending (x +ℤ pos m) m (suc n) h)
 
-progression-between : (low high x : ℤ) (m n : ℕ) → low ≤ℤ x → (x +ℤ pos (n * m)) ≤ℤ (high +ℤ pos m) → All (λ y. (low ≤ℤ y) × (y ≤ℤ high)) (progression x m n)
+pub progression-between : (low high x : ℤ) (m n : ℕ) → low ≤ℤ x → (x +ℤ pos (n * m)) ≤ℤ (high +ℤ pos m) → All (λ y. (low ≤ℤ y) × (y ≤ℤ high)) (progression x m n)
 unfolding progression
 progression-between low high x m zero h k = All-nil (λ y. (low ≤ℤ y) × (y ≤ℤ high))
 progression-between low high x m (suc n) h k =
     All-cons (λ y. (low ≤ℤ y) × (y ≤ℤ high)) x (progression (x +ℤ pos m) m n) (h, omega (arith, ints)) (progression-between low high (x +ℤ pos m) m n (omega (arith, ints)) (omega (arith, ints)))
 
-distance-is : (x y : ℤ) → y ≤ℤ x → pos (distance x y) ≡ x -ℤ y
+pub distance-is : (x y : ℤ) → y ≤ℤ x → pos (distance x y) ≡ x -ℤ y
 distance-is x y h = grind (arith, ints)
 
 strided-members : (first last : ℤ) (m n : ℕ) → 0 < m → first ≤ℤ last → n ≡ distance last first / m → n < 8 → IsBounded first → IsBounded last
@@ -135,7 +135,7 @@ above-trans : (x y : ℤ) (rest : List ℤ) → x <ℤ y → IsAscending (y ∷ 
 above-trans x y [] h k = All-cons (λ z. x <ℤ z) y [] h (All-nil (λ z. x <ℤ z))
 above-trans x y (z ∷ rest) h k = All-cons (λ z. x <ℤ z) y (z ∷ rest) h (above-trans x z rest (omega (arith, ints, k.0)) k.1)
 
-ascending-tail : (x : ℤ) (rest : List ℤ) → IsAscending (x ∷ rest) → IsAscending rest × All (λ z. x <ℤ z) rest
+pub ascending-tail : (x : ℤ) (rest : List ℤ) → IsAscending (x ∷ rest) → IsAscending rest × All (λ z. x <ℤ z) rest
 ascending-tail x [] k = (tt, All-nil (λ z. x <ℤ z))
 ascending-tail x (y ∷ rest) k = (k.1, above-trans x y rest k.0 k.1)
 
@@ -143,7 +143,7 @@ ascending-cons : (x : ℤ) (rest : List ℤ) → All (λ z. x <ℤ z) rest → I
 ascending-cons x [] h k = tt
 ascending-cons x (y ∷ rest) h k = (All-head (λ z. x <ℤ z) y rest h, k)
 
-filter-all : (P : ℤ → Type 0) (p : ℤ → Bool) (xs : List ℤ) → All P xs → All P (filter p xs)
+pub filter-all : (P : ℤ → Type 0) (p : ℤ → Bool) (xs : List ℤ) → All P xs → All P (filter p xs)
 filter-all P p [] h = h
 filter-all P p (x ∷ xs) h =
     let rest = filter-all P p xs (All-tail P x xs h) in

@@ -1,6 +1,7 @@
 //! Integer sets.
 #![tactic(auto)]
 
+mod corners;
 mod filters;
 mod forms;
 mod hull;
@@ -8,6 +9,8 @@ mod join;
 mod members;
 mod numbers;
 mod pairs;
+mod products;
+mod quotients;
 mod ranges;
 mod spans;
 mod sums;

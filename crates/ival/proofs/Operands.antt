@@ -1,0 +1,61 @@
+-- Where the sets that norm, hull and trim make lie.
+use Rattle.std.proofs.Common.{◌≡◌, ℕ, zero, suc, ◌+◌, ◌-◌, ◌*◌, ◌/◌, ◌^◌, ◌<◌, ◌≤◌, max, List, [], ◌∷◌, length, true, false, ℤ, pos, negsuc, neg_ℤ, ◌+ℤ◌, ◌-ℤ◌, ◌≤ℤ◌, ◌<ℤ◌, sym, refl, ap, subst, ◌∙◌, arith, ⊎_elim}
+use Rattle.std.specs.Prelude.{unsigned_abs}
+use Rattle.std.specs.List.{All, filter}
+use Rattle.std.specs.Int.{int_min, int_max}
+use Rattle.std.proofs.lemmas.Int.{ints, by_lt_z, clamps}
+use Rattle.std.proofs.lemmas.Nat.{div-add-mod'}
+use Rattle.std.proofs.lemmas.Bool.{cases_lt}
+use Rattle.std.proofs.lemmas.List.Elements.{All-weaker}
+use Rattle.ival.specs.Numbers.{residue, distance}
+use Rattle.ival.specs.Lists.{progression}
+use Rattle.ival.specs.Forms.{IsBounded, IsMemberList, IsProgression, IsWellFormed, IsOperand, IsOperandNumber, Within, strided, norm, first_from, last_to, set_of}
+use Rattle.ival.specs.SetOperations.{trim, is_between}
+use Rattle.ival.proofs.FormLemmas.{strided-empty, strided-set, strided-range, norm-strided, norm-empty}
+use Rattle.ival.proofs.WellFormed.{norm-well_formed, filter-well_formed, filter-all, progression-between, distance-is}
+use Rattle.ival.specs.declared.forms.Ival.{Ival}
+use Rattle.ival.specs.declared.forms.Ival.TheVariants.{Empty, Set, Range, All as Every}
+
+strided-within : (low high first last r : ℤ) (m : ℕ) → low ≤ℤ first → last ≤ℤ high → Within low high (strided first last r m)
+strided-within low high first last r m h k =
+    let P : Ival → Type 0 = Within low high in
+    let n = distance last first / m in
+    by_lt_z last first
+      (λ none. subst P (strided-empty first last r m none) tt)
+      (λ some.
+        let apart = distance-is last first some in
+        let all : n * m ≤ distance last first = omega (arith, div-add-mod' (distance last first) m) in
+        ⊎_elim
+          (λ few. subst P (strided-set first last r m (distance last first) some refl few) (progression-between low high first m (n + 1) h (omega (arith, ints))))
+          (λ many. subst P (strided-range first last r first last (pos (residue r m)) (pos m) m some many refl refl refl refl) (h, k))
+          (cases_lt n 8))
+
+pub norm-within : (low high lo hi r : ℤ) (m : ℕ) → low ≤ℤ lo → hi ≤ℤ high → Within low high (norm lo hi r m)
+norm-within low high lo hi r m h k =
+    let j = max m 1 in
+    subst (Within low high) (norm-strided lo hi r _ _ m j refl refl refl)
+      (strided-within low high (first_from lo r j) (last_to hi r j) r j (omega (arith, ints)) (omega (arith, ints)))
+
+abbrev pub operand_low : ℤ
+operand_low = neg_ℤ (pos (2 ^ 63))
+
+abbrev pub operand_high : ℤ
+operand_high = pos (2 ^ 64 - 1)
+
+pub operand_from_within : (a : Ival) → IsWellFormed a → Within operand_low operand_high a → IsOperand a
+operand_from_within Empty h k = tt
+operand_from_within (Set xs) h k =
+    (h, All-weaker (λ x. (operand_low ≤ℤ x) × (x ≤ℤ operand_high)) IsOperandNumber (λ x b. record { above = b.0; below = omega (arith, ints, b.1) }) xs k)
+operand_from_within (Range lo hi r m) h k = (h, ?, ?)
+operand_from_within Every h k = absurd k
+
+set_of-operand : (xs : List ℤ) → IsWellFormed (set_of xs) → All IsOperandNumber xs → IsOperand (set_of xs)
+set_of-operand [] h k = tt
+set_of-operand (x ∷ xs) h k = (h, k)
+
+pub trim-operand : (a : Ival) (lo hi : ℤ) → IsOperand a → IsBounded lo → IsBounded hi → IsOperand (trim a lo hi)
+trim-operand Empty lo hi h low high = tt
+trim-operand (Set xs) lo hi h low high =
+    set_of-operand (filter (is_between lo hi) xs) (filter-well_formed (is_between lo hi) xs h.0) (filter-all IsOperandNumber (is_between lo hi) xs h.1)
+trim-operand (Range first last r m) lo hi h low high = ?
+trim-operand Every lo hi h low high = absurd h
