@@ -46,7 +46,8 @@ pub operand_from_within : (a : Ival) → IsWellFormed a → Within operand_low o
 operand_from_within Empty h k = tt
 operand_from_within (Set xs) h k =
     (h, All-weaker (λ x. (operand_low ≤ℤ x) × (x ≤ℤ operand_high)) IsOperandNumber (λ x b. record { above = b.0; below = omega (arith, ints, b.1) }) xs k)
-operand_from_within (Range lo hi r m) h k = (h, ?, ?)
+operand_from_within (Range lo hi r m) h k =
+    (h, record { above = k.0; below = omega (arith, ints, h.many, k.1) }, record { above = omega (arith, ints, h.many, k.0); below = omega (arith, ints, k.1) })
 operand_from_within Every h k = absurd k
 
 set_of-operand : (xs : List ℤ) → IsWellFormed (set_of xs) → All IsOperandNumber xs → IsOperand (set_of xs)
@@ -57,5 +58,11 @@ pub trim-operand : (a : Ival) (lo hi : ℤ) → IsOperand a → IsBounded lo →
 trim-operand Empty lo hi h low high = tt
 trim-operand (Set xs) lo hi h low high =
     set_of-operand (filter (is_between lo hi) xs) (filter-well_formed (is_between lo hi) xs h.0) (filter-all IsOperandNumber (is_between lo hi) xs h.1)
-trim-operand (Range first last r m) lo hi h low high = ?
+trim-operand (Range first last r m) lo hi h low high =
+    let l = int_max first lo in
+    let u = int_min last hi in
+    let from : IsBounded l = record { above = omega (arith, ints, clamps, h.0.low.above, low.above); below = omega (arith, ints, clamps, h.0.low.below, low.below) } in
+    let to : IsBounded u = record { above = omega (arith, ints, clamps, h.0.high.above, high.above); below = omega (arith, ints, clamps, h.0.high.below, high.below) } in
+    operand_from_within (norm l u r (unsigned_abs m)) (norm-well_formed l u r (unsigned_abs m) from to)
+      (norm-within operand_low operand_high l u r (unsigned_abs m) (omega (arith, ints, clamps, h.1.above)) (omega (arith, ints, clamps, h.2.below)))
 trim-operand Every lo hi h low high = absurd h

@@ -2,7 +2,7 @@
 use Rattle.std.specs.Prelude.{ℕ, ◌-◌, ◌*◌, ◌/◌, ◌%◌, ◌^◌, max, List, [], ◌∷◌, Option, Some, None, unwrap_or, Bool, true, false, ◌&&◌, ◌||◌, ◌==◌, ℤ, pos, neg_ℤ, negsuc, ◌+ℤ◌, ◌-ℤ◌, ◌*ℤ◌, int_lt, int_le, int_div, int_rem, nat_lt, nat_eq, unsigned_abs, if◌then◌else◌}
 use Rattle.std.specs.Int.{int_min, int_max}
 use Rattle.ival.specs.Numbers.{gcd}
-use Rattle.ival.specs.Forms.{IsBounded, norm, least, greatest, step, is_empty}
+use Rattle.ival.specs.Forms.{IsBounded, norm, only_number, least, greatest, step, is_empty}
 use Rattle.ival.specs.Pairs.{pointwise}
 use Rattle.ival.specs.SetOperations.{join_of, trim}
 use Rattle.ival.specs.declared.corners.Corners.{Corners}
@@ -93,15 +93,6 @@ mul_of a b = if is_empty a || is_empty b then Empty else product_range a b (corn
 
 -- ---- quotients
 
--- the one number of a set of one
-abbrev pub only_number : Ival → Option ℤ
-only_number Empty = None
-only_number (Set []) = None
-only_number (Set (x ∷ [])) = Some x
-only_number (Set (x ∷ y ∷ rest)) = None
-only_number (Range lo hi r m) = None
-only_number Every = None
-
 -- c divides the least end and the step, so it divides each member
 abbrev pub divides_all : ℤ → Ival → Bool
 divides_all c a = nat_lt 0 (unsigned_abs c) && nat_eq (step a % unsigned_abs c) 0 && nat_eq (unsigned_abs (least a) % unsigned_abs c) 0
@@ -142,12 +133,18 @@ abbrev pub remainder_step : Ival → Option ℤ → ℕ
 remainder_step a None = 1
 remainder_step a (Some c) = gcd (step a) (unsigned_abs c)
 
+-- the ends of the remainders: those of the dividend, and no further from 0 than the divisor's size less 1
+abbrev pub lower_remainder : ℤ → ℕ → ℤ
+lower_remainder lo size = if int_lt lo (pos 0) then int_max lo (neg_ℤ (pos (size - 1))) else pos 0
+
+abbrev pub upper_remainder : ℤ → ℕ → ℤ
+upper_remainder hi size = if int_lt (pos 0) hi then int_min hi (pos (size - 1)) else pos 0
+
 abbrev pub rem_ends : Ival → Ival → Ival
 rem_ends a b =
   if nat_eq (divisor_size b) 0 then Empty
   else norm
-    (if int_lt (least a) (pos 0) then int_max (least a) (neg_ℤ (pos (divisor_size b - 1))) else pos 0)
-    (if int_lt (pos 0) (greatest a) then int_min (greatest a) (pos (divisor_size b - 1)) else pos 0)
+    (lower_remainder (least a) (divisor_size b)) (upper_remainder (greatest a) (divisor_size b))
     (remainder_rest a (only_number b)) (remainder_step a (only_number b))
 
 abbrev pub rem_of : Ival → Ival → Ival

@@ -1,5 +1,5 @@
 -- Integer sets: their forms, their members, and the sets made of lists and of classes.
-use Rattle.std.specs.Prelude.{◌≡◌, ◌<◌, ◌≤◌, ◌+◌, ◌*◌, ◌/◌, ◌^◌, max, ℕ, ◌-◌, List, [], ◌∷◌, length, get_or, Bool, true, false, ◌&&◌, ℤ, pos, neg_ℤ, ◌+ℤ◌, ◌-ℤ◌, ◌≤ℤ◌, ◌<ℤ◌, int_lt, int_le, nat_eq, nat_lt, nat_le, unsigned_abs, if◌then◌else◌}
+use Rattle.std.specs.Prelude.{◌≡◌, ◌<◌, ◌≤◌, ◌+◌, ◌*◌, ◌/◌, ◌^◌, max, ℕ, ◌-◌, List, [], ◌∷◌, length, get_or, Option, Some, None, Bool, true, false, ◌&&◌, ℤ, pos, neg_ℤ, ◌+ℤ◌, ◌-ℤ◌, ◌≤ℤ◌, ◌<ℤ◌, int_lt, int_le, nat_eq, nat_lt, nat_le, unsigned_abs, if◌then◌else◌}
 use Rattle.std.specs.List.{All, Contains, list_any}
 use Rattle.std.specs.Ordering.{int_eq}
 use Rattle.ival.specs.Numbers.{distance, residue, gcd}
@@ -110,6 +110,15 @@ is_range Empty = false
 is_range (Set xs) = false
 is_range (Range lo hi r m) = true
 is_range Every = false
+
+-- the one number of a set of one
+abbrev pub only_number : Ival → Option ℤ
+only_number Empty = None
+only_number (Set []) = None
+only_number (Set (x ∷ [])) = Some x
+only_number (Set (x ∷ y ∷ rest)) = None
+only_number (Range lo hi r m) = None
+only_number Every = None
 
 -- ascending numbers as a set
 abbrev pub set_of : List ℤ → Ival

@@ -1,4 +1,5 @@
 pub mod Arithmetic
+pub mod BitOperations
 pub mod Forms
 pub mod Lists
 pub mod Members

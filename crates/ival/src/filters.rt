@@ -2,7 +2,7 @@
 
 ghost use Rattle.std.specs.Prelude.{◌≡◌, ℤ, Bool};
 ghost use Rattle.std.specs.List.{filter};
-ghost use Rattle.ival.specs.Forms.{IsBounded, IsWellFormed, IsMemberList, set_of};
+ghost use Rattle.ival.specs.Forms.{IsBounded, IsWellFormed, IsOperand, IsMemberList, set_of};
 ghost use Rattle.ival.specs.SetOperations.{trim, is_between};
 
 use crate::forms::Ival;
@@ -70,6 +70,7 @@ impl Ival {
         requires high { IsBounded hi }
         ensures value { result ≡ trim self.now lo hi }
         ensures formed { IsWellFormed result }
+        ensures operand { IsOperand self.now → IsOperand result }
     {
         match self {
             Ival::Empty => Ival::Empty,

@@ -1,6 +1,7 @@
 //! Integer sets.
 #![tactic(auto)]
 
+mod bits;
 mod corners;
 mod filters;
 mod forms;

@@ -1,7 +1,7 @@
 //! The ends and the step of a set, and its membership test.
 
-ghost use Rattle.std.specs.Prelude.{◌≡◌, pos, ℤ};
-ghost use Rattle.ival.specs.Forms.{IsBounded, IsOperand, IsOperandNumber, IsWellFormed, HasEnds, has, least, greatest, step, norm, is_empty};
+ghost use Rattle.std.specs.Prelude.{◌≡◌, IfSome, pos, ℤ};
+ghost use Rattle.ival.specs.Forms.{IsBounded, IsOperand, IsOperandNumber, IsWellFormed, HasEnds, has, least, greatest, step, norm, is_empty, only_number};
 
 use crate::forms::Ival;
 use crate::hull::spread;
@@ -49,6 +49,20 @@ impl Ival {
             Ival::Empty => true,
             _ => false,
         }
+    }
+
+    /// The one number of a set of one.
+    pub(crate) fn only_number(&self) -> Option<i128>
+        ensures value { result ≡ only_number self.now }
+        ensures operand { IsOperand self.now → IfSome result IsOperandNumber }
+    {
+        if let Ival::Set(xs) = self {
+            let xs = xs.as_slice();
+            if xs.len() == 1 {
+                return Some(xs[0]);
+            }
+        }
+        None
     }
 
     pub(crate) fn span(&self) -> Span
