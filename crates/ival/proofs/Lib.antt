@@ -6,3 +6,4 @@ pub mod PairLemmas
 pub mod WellFormed
 pub mod ProductLemmas
 pub mod Operands
+pub mod BitLemmas

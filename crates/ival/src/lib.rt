@@ -13,6 +13,7 @@ mod pairs;
 mod products;
 mod quotients;
 mod ranges;
+mod shifts;
 mod spans;
 mod sums;
 
