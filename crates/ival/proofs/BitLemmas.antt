@@ -6,7 +6,13 @@ use Rattle.std.proofs.lemmas.Int.{ints, to_z_pos}
 use Rattle.std.proofs.lemmas.Nat.{and_shr, or_shr, xor_shr, and_le_l, or_lt, xor_lt, leading_length, pow_below, pow_pos, one_shl}
 use Rattle.std.proofs.lemmas.Bool.{cases_lt}
 use Rattle.ival.specs.Forms.{IsBounded, IsOperandNumber}
-use Rattle.ival.specs.BitOperations.{bit_length}
+use Rattle.std.specs.Prelude.{List, [], ◌∷◌, ◌++◌, Option, Some, None, IfSome}
+use Rattle.std.specs.List.{All}
+use Rattle.std.specs.Option.{option_to_list}
+use Rattle.std.proofs.Common.{add-one}
+use Rattle.std.proofs.lemmas.List.Elements.{All-same, All-append, All-cons, All-nil}
+use Rattle.ival.specs.declared.forms.Ival.{Ival}
+use Rattle.ival.specs.BitOperations.{bit_length, powers, power_at}
 
 -- the upper 64 of 128 bits are all equal
 abbrev IsExtended : ℕ → Type 0
@@ -74,3 +80,21 @@ power-low b h = subst (λ z. pos 1 ≤ℤ z) (sym (power-is b h)) (omega (arith,
 
 pub power-high : (b : ℕ) → b ≤ 65 → to_z w128 ((1 * 2 ^ b) % 2 ^ 128) ≤ℤ pos (2 ^ 65)
 power-high b h = subst (λ z. z ≤ℤ pos (2 ^ 65)) (sym (power-is b h)) (omega (arith, ints, power-le b h))
+
+pub power-operand : (b : ℕ) → b < 64 → IsOperandNumber (to_z w128 ((1 * 2 ^ b) % 2 ^ 128))
+power-operand b h =
+    subst IsOperandNumber (sym (power-is b (omega arith))) record { above = omega (arith, ints); below = omega (arith, ints, pow_below b 64 h) }
+
+pub powers-none : (b : Ival) → [] ≡ powers b 0
+unfolding powers
+powers-none b = refl
+
+pub powers-more : (b : Ival) (k : ℕ) (found new : List ℤ) (o : Option ℤ) → found ≡ powers b k → o ≡ power_at b k → new ≡ found ++ option_to_list o → new ≡ powers b (k + 1)
+unfolding powers
+powers-more b k found new o p q r =
+    let next : powers b (suc k) ≡ powers b k ++ option_to_list (power_at b k) = refl in
+    r ∙ ap (λ (zs : List ℤ). zs ++ option_to_list o) p ∙ ap (λ w. powers b k ++ option_to_list w) q ∙ ap (powers b) (sym (add-one k))
+
+pub add-all : (P : ℤ → Type 0) (found new : List ℤ) (o : Option ℤ) → All P found → IfSome o P → new ≡ found ++ option_to_list o → All P new
+add-all P found new None h k e = All-same P new (found ++ []) e (All-append P found [] h (All-nil P))
+add-all P found new (Some x) h k e = All-same P new (found ++ x ∷ []) e (All-append P found (x ∷ []) h (All-cons P x [] k (All-nil P)))

@@ -6,13 +6,14 @@ use Rattle.std.specs.Int.{int_min, int_max}
 use Rattle.std.proofs.lemmas.Int.{ints, by_lt_z, clamps}
 use Rattle.std.proofs.lemmas.Nat.{div-add-mod'}
 use Rattle.std.proofs.lemmas.Bool.{cases_lt}
-use Rattle.std.proofs.lemmas.List.Elements.{All-weaker}
+use Rattle.std.proofs.lemmas.List.Elements.{All-weaker, All-nil, All-head, All-tail}
 use Rattle.ival.specs.Numbers.{residue, distance}
-use Rattle.ival.specs.Lists.{progression}
-use Rattle.ival.specs.Forms.{IsBounded, IsMemberList, IsProgression, IsWellFormed, IsOperand, IsOperandNumber, Within, strided, norm, first_from, last_to, set_of}
+use Rattle.ival.specs.Lists.{progression, ascending, least_of, greatest_of, spread}
+use Rattle.ival.specs.Forms.{IsBounded, IsMemberList, IsProgression, IsWellFormed, IsOperand, IsOperandNumber, Within, strided, norm, hull, first_from, last_to, set_of}
 use Rattle.ival.specs.SetOperations.{trim, is_between}
-use Rattle.ival.proofs.FormLemmas.{strided-empty, strided-set, strided-range, norm-strided, norm-empty}
-use Rattle.ival.proofs.WellFormed.{norm-well_formed, filter-well_formed, filter-all, progression-between, distance-is}
+use Rattle.ival.proofs.FormLemmas.{strided-empty, strided-set, strided-range, norm-strided, norm-empty, hull-none, hull-few, hull-many}
+use Rattle.ival.proofs.ListLemmas.{least_of-one, greatest_of-one}
+use Rattle.ival.proofs.WellFormed.{gathers, hull-well_formed, norm-well_formed, filter-well_formed, filter-all, progression-between, distance-is}
 use Rattle.ival.specs.declared.forms.Ival.{Ival}
 use Rattle.ival.specs.declared.forms.Ival.TheVariants.{Empty, Set, Range, All as Every}
 
@@ -66,3 +67,23 @@ trim-operand (Range first last r m) lo hi h low high =
     operand_from_within (norm l u r (unsigned_abs m)) (norm-well_formed l u r (unsigned_abs m) from to)
       (norm-within operand_low operand_high l u r (unsigned_abs m) (omega (arith, ints, clamps, h.1.above)) (omega (arith, ints, clamps, h.2.below)))
 trim-operand Every lo hi h low high = absurd h
+
+pub hull-within : (low high : ℤ) (xs : List ℤ) → All (λ x. (low ≤ℤ x) × (x ≤ℤ high)) xs → Within low high (hull xs)
+hull-within low high [] all = subst (Within low high) (hull-none [] refl) tt
+hull-within low high (x ∷ rest) all =
+    let P : ℤ → Type 0 = λ y. (low ≤ℤ y) × (y ≤ℤ high) in
+    let kept = ascending (x ∷ rest) in
+    let r = gathers P [] (x ∷ rest) tt (All-nil P) all in
+    let lo = least_of-one P x rest (All-head P x rest all) (All-tail P x rest all) in
+    let hi = greatest_of-one P x rest (All-head P x rest all) (All-tail P x rest all) in
+    ⊎_elim
+      (λ many. subst (Within low high) (hull-many x (x ∷ rest) rest refl many) (norm-within low high (least_of x rest) (greatest_of x rest) x (spread x rest) lo.0 hi.1))
+      (λ few. subst (Within low high) (hull-few kept (x ∷ rest) (omega arith) refl few) r.1)
+      (cases_lt 8 (length kept))
+
+pub operand-bounded : (xs : List ℤ) → All IsOperandNumber xs → All IsBounded xs
+operand-bounded xs all = All-weaker IsOperandNumber IsBounded (λ x h. record { above = omega (arith, ints, h.above); below = omega (arith, ints, h.below) }) xs all
+
+pub hull-operand : (xs : List ℤ) → All IsOperandNumber xs → IsOperand (hull xs)
+hull-operand xs all =
+    operand_from_within (hull xs) (hull-well_formed xs (operand-bounded xs all)) (hull-within operand_low operand_high xs (All-weaker IsOperandNumber (λ x. (operand_low ≤ℤ x) × (x ≤ℤ operand_high)) (λ x h. (h.above, omega (arith, ints, h.below))) xs all))

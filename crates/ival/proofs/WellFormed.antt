@@ -110,7 +110,7 @@ insert-all P x (z ∷ rest) h k =
         (λ ge. let e : x ≡ z = omega (arith, ints) in subst Q (sym (ap (λ w. insert w (z ∷ rest)) e ∙ insert-known z rest)) k))
 
 -- what a list gathers in ascending order, by induction on the list
-gathers : (P : ℤ → Type 0) (kept xs : List ℤ) → IsAscending kept → All P kept → All P xs
+pub gathers : (P : ℤ → Type 0) (kept xs : List ℤ) → IsAscending kept → All P kept → All P xs
     → IsAscending (fold (λ kept x. insert x kept) kept xs) × All P (fold (λ kept x. insert x kept) kept xs) × (length kept ≤ length (fold (λ kept x. insert x kept) kept xs))
 gathers P kept [] h k all = (h, k, omega arith)
 gathers P kept (x ∷ xs) h k all =

@@ -1,6 +1,7 @@
 -- Shifts and bit operations on sets. Bits are those of two's complement.
 use Rattle.std.specs.Prelude.{ℕ, zero, suc, ◌-◌, ◌^◌, max, List, [], ◌∷◌, ◌++◌, Option, Some, None, unwrap_or, Bool, ◌&&◌, ℤ, pos, neg_ℤ, ◌-ℤ◌, int_le, int_lt, nat_lt, unsigned_abs, if◌then◌else◌}
 use Rattle.std.specs.Int.{w128, int_min, int_max, int_bit_and, int_bit_or, int_bit_xor, int_shr, leading_zeros}
+use Rattle.std.specs.Option.{option_to_list}
 use Rattle.std.specs.Int.Signed.{mag}
 use Rattle.ival.specs.Forms.{norm, hull, has, least, greatest}
 use Rattle.ival.specs.Pairs.{pointwise}
@@ -10,10 +11,14 @@ use Rattle.ival.specs.declared.forms.Ival.TheVariants.{Empty, Set, Range, All as
 
 -- ---- shifts
 
+-- 2^k where k is a member
+abbrev pub power_at : Ival → ℕ → Option ℤ
+power_at b k = if has b (pos k) then Some (pos (2 ^ k)) else None
+
 -- the powers of 2 whose exponent is a member below n
 unfoldable pub powers : Ival → ℕ → List ℤ
 powers b zero = []
-powers b (suc k) = powers b k ++ (if has b (pos k) then pos (2 ^ k) ∷ [] else [])
+powers b (suc k) = powers b k ++ option_to_list (power_at b k)
 
 abbrev pub shl_of : Ival → Ival → Ival
 shl_of a b = mul_of a (hull (powers b 64))

@@ -1,5 +1,7 @@
 pub mod Arithmetic
 pub mod BitOperations
+pub mod Casts
+pub mod Comparisons
 pub mod Forms
 pub mod Lists
 pub mod Members

@@ -1,9 +1,9 @@
 -- Join, meet, inclusion, widening and trimming of sets.
-use Rattle.std.specs.Prelude.{ℕ, ◌%◌, List, [], ◌∷◌, ◌++◌, Bool, true, false, ◌&&◌, ℤ, pos, int_le, nat_eq, unsigned_abs, if◌then◌else◌}
-use Rattle.std.specs.List.{filter, list_all}
+use Rattle.std.specs.Prelude.{ℕ, zero, suc, ◌%◌, ◌^◌, ◌-◌, neg_ℤ, ◌+ℤ◌, ◌-ℤ◌, List, [], ◌∷◌, ◌++◌, Bool, true, false, ◌&&◌, ℤ, pos, int_le, nat_eq, unsigned_abs, if◌then◌else◌}
+use Rattle.std.specs.List.{filter, list_all, fold}
 use Rattle.std.specs.Int.{int_min, int_max}
 use Rattle.ival.specs.Numbers.{gcd, distance, residue}
-use Rattle.ival.specs.Forms.{hull, norm, has, least, greatest, step, set_of}
+use Rattle.ival.specs.Forms.{hull, norm, has, least, greatest, step, set_of, is_empty}
 use Rattle.ival.specs.declared.forms.Ival.{Ival}
 use Rattle.ival.specs.declared.forms.Ival.TheVariants.{Empty, Set, Range, All as Every}
 
@@ -33,12 +33,45 @@ trim (Set xs) lo hi = set_of (filter (is_between lo hi) xs)
 trim (Range first last r m) lo hi = norm (int_max first lo) (int_min last hi) r (unsigned_abs m)
 trim Every lo hi = Every
 
+-- the numbers that are r modulo m are all rest modulo stride
+abbrev pub is_in_class : ℤ → ℤ → ℤ → ℤ → Bool
+is_in_class r m rest stride = nat_eq (unsigned_abs m % unsigned_abs stride) 0 && nat_eq (residue r (unsigned_abs stride)) (unsigned_abs rest)
+
 -- each member of the first is one of the second
 abbrev pub included_of : Ival → Ival → Bool
 included_of Empty b = true
 included_of a Every = true
 included_of (Set xs) b = list_all (has b) xs
 included_of (Range lo hi r m) (Range low high rest stride) =
-  int_le low lo && int_le hi high && nat_eq (unsigned_abs m % unsigned_abs stride) 0 && nat_eq (residue r (unsigned_abs stride)) (unsigned_abs rest)
+  int_le low lo && int_le hi high && is_in_class r m rest stride
 included_of (Range lo hi r m) b = false
 included_of Every b = false
+
+-- ---- meet
+
+-- the least k below n such that start + k * m is r modulo n; n where there is none
+unfoldable pub first_meeting : ℕ → ℤ → ℕ → ℤ → ℕ → ℕ
+first_meeting zero start m r n = 0
+first_meeting (suc k) start m r n =
+  if nat_eq (residue start n) (residue r n) then 0 else suc (first_meeting k (start +ℤ pos m) m r n)
+
+-- ---- widening
+
+-- the greatest of the type's least number and the thresholds up to x
+abbrev pub lower_stop : ℕ → List ℤ → ℤ → ℤ
+lower_stop width thresholds x = fold int_max (neg_ℤ (pos (2 ^ (width - 1)))) (filter (λ t. int_le t x) thresholds)
+
+-- the least of the type's greatest number and the thresholds from x on
+abbrev pub upper_stop : ℕ → List ℤ → ℤ → ℤ
+upper_stop width thresholds x = fold int_min (pos (2 ^ width) -ℤ pos 1) (filter (λ t. int_le x t) thresholds)
+
+-- the ends that have moved go to the next threshold; the class is that of the join
+abbrev pub widened : Ival → Ival → List ℤ → ℕ → Ival
+widened old j thresholds width =
+  norm (if int_le (least old) (least j) then least old else lower_stop width thresholds (least j))
+    (if int_le (greatest j) (greatest old) then greatest old else upper_stop width thresholds (greatest j)) (least j) (step j)
+
+abbrev pub widen_of : Ival → Ival → List ℤ → ℕ → Ival
+widen_of old newer thresholds width =
+  if is_empty old then newer
+  else (if included_of (join_of old newer) old then old else widened old (join_of old newer) thresholds width)

@@ -71,6 +71,7 @@ pub fn power(b: u32) -> i128
     ensures value { result ≡ pos (2 ^ b) }
     ensures low { pos 1 ≤ℤ result }
     ensures high { result ≤ℤ pos (2 ^ 65) }
+    ensures operand { b < 64 → IsOperandNumber result }
 {
     1 << b
 }

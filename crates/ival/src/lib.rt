@@ -2,10 +2,12 @@
 #![tactic(auto)]
 
 mod bits;
+mod casts;
 mod corners;
 mod filters;
 mod forms;
 mod hull;
+mod inclusion;
 mod join;
 mod members;
 mod numbers;
@@ -19,3 +21,6 @@ mod sums;
 
 pub use forms::{Cmp, Ival};
 pub use members::Members;
+
+#[cfg(test)]
+mod tests;

@@ -72,7 +72,7 @@ impl Numbers {
     }
 
     /// The number, if there is one.
-    fn add(&mut self, x: Option<i128>)
+    pub fn add(&mut self, x: Option<i128>)
         requires { length self.old < 64 }
         ensures value { self.new ≡ self.old ++ option_to_list x }
         ensures bounded { All IsBounded self.old → IfSome x IsBounded → All IsBounded self.new }

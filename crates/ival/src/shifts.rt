@@ -1,8 +1,8 @@
 //! Shifts by 0 to 63 places.
 
-ghost use Rattle.std.specs.Prelude.{◌≡◌, ◌≤◌, ℤ, pos};
-ghost use Rattle.ival.specs.Forms.{IsOperand, IsWellFormed, hull};
-ghost use Rattle.ival.specs.BitOperations.{shifted_of, shl_of, shr_of, powers};
+ghost use Rattle.std.specs.Prelude.{◌≡◌, ◌≤◌, ◌<◌, ℤ, pos, IfSome};
+ghost use Rattle.ival.specs.Forms.{IsOperand, IsOperandNumber, IsWellFormed, hull};
+ghost use Rattle.ival.specs.BitOperations.{shifted_of, shl_of, shr_of, powers, power_at};
 
 use crate::bits::power;
 use crate::corners::Corners;
@@ -23,17 +23,25 @@ impl Rule for Shifted {
 }
 
 impl Ival {
+    /// 2^k where k is a member.
+    fn power_at(&self, k: u32) -> Option<i128>
+        requires formed { IsWellFormed self.now }
+        requires small { k < 64 }
+        ensures value { result ≡ power_at self.now k }
+        ensures operand { IfSome result IsOperandNumber }
+    {
+        if self.has(i128::from(k)) { Some(power(k)) } else { None }
+    }
+
     /// The hull of the powers of 2 with an exponent among the members below 64.
     fn powers(&self) -> Ival
-        requires { IsOperand self.now }
+        requires { IsWellFormed self.now }
         ensures value { result ≡ hull (powers self.now 64) }
         ensures operand { IsOperand result }
     {
         let mut found = Numbers::new();
         for k in 0..64u32 {
-            if self.has(i128::from(k)) {
-                found.push(power(k));
-            }
+            found.add(self.power_at(k));
         }
         Ival::of_set(found.as_slice())
     }
