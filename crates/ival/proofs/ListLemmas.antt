@@ -5,7 +5,9 @@ use Rattle.std.proofs.lemmas.List.{drop_more, take_more, take-append-drop, appen
 use Rattle.std.proofs.Math.Nat.{le_refl}
 use Rattle.std.specs.Prelude.{int_lt, true, false, get_or, take, drop}
 use Rattle.std.specs.Prelude.{Bool, cond}
-use Rattle.std.specs.List.{All}
+use Rattle.std.specs.List.{All, fold, filter}
+use Rattle.std.proofs.lemmas.List.Elements.{filter-append}
+use Rattle.std.proofs.lemmas.List.Sums.{fold-append}
 use Rattle.std.specs.Int.{int_min, int_max}
 use Rattle.std.proofs.lemmas.List.Elements.{All-head, All-tail}
 use Rattle.ival.specs.Lists.{progression, insert, least_of, greatest_of}
@@ -99,3 +101,14 @@ greatest_of-one P x (y ∷ ys) h k = greatest_of-one P (int_max x y) ys (elim (i
 pub head_rest : (xs : List ℤ) → 0 < length xs → xs ≡ get_or xs 0 (pos 0) ∷ take (length xs - 1) (drop 1 xs)
 head_rest [] h = absurd (omega arith)
 head_rest (x ∷ rest) h = ap (λ ys. x ∷ ys) (sym (take_all (suc (length rest) - 1) rest (omega arith)))
+
+-- ---- a fold over what passes a test
+
+pub fold_filter-more : (f : ℤ → ℤ → ℤ) (a : ℤ) (p : ℤ → Bool) (xs : List ℤ) (i : ℕ) (t s r : ℤ) → i < length xs → t ≡ get_or xs i (pos 0)
+    → s ≡ fold f a (filter p (take i xs)) → r ≡ cond (p t) (f s t) s → r ≡ fold f a (filter p (take (i + 1) xs))
+fold_filter-more f a p xs i t s r h e q w =
+    let x = get_or xs i (pos 0) in
+    let before = fold f a (filter p (take i xs)) in
+    let all : fold f a (filter p (take (i + 1) xs)) ≡ fold f before (filter p (x ∷ [])) = ap (λ ys. fold f a (filter p ys)) (take_more xs i (pos 0) h) ∙ ap (fold f a) (filter-append p (take i xs) (x ∷ [])) ∙ fold-append f a (filter p (take i xs)) (filter p (x ∷ [])) in
+    let one : cond (p x) (f before x) before ≡ fold f before (filter p (x ∷ [])) = elim (p x) as (λ b. cond b (f before x) before ≡ fold f before (cond b (x ∷ []) [])) [ true ↦ refl | false ↦ refl ] in
+    w ∙ ap (λ z. cond (p z) (f s z) s) e ∙ ap (λ z. cond (p x) (f z x) z) q ∙ one ∙ sym all

@@ -80,6 +80,12 @@ HasEnds (Set xs) = IsMemberList xs
 HasEnds (Range lo hi r m) = IsProgression lo hi r m
 HasEnds Every = ⊥
 
+abbrev pub has_ends : Ival → Bool
+has_ends Empty = false
+has_ends (Set xs) = true
+has_ends (Range lo hi r m) = true
+has_ends Every = false
+
 -- the ends and the step of a set; the step of a single number is 0
 abbrev pub least : Ival → ℤ
 least Empty = pos 0

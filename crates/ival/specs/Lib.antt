@@ -1,7 +1,5 @@
 pub mod Arithmetic
 pub mod BitOperations
-pub mod Casts
-pub mod Comparisons
 pub mod Forms
 pub mod Lists
 pub mod Members

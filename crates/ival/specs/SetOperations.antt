@@ -3,7 +3,7 @@ use Rattle.std.specs.Prelude.{ℕ, zero, suc, ◌%◌, ◌^◌, ◌-◌, neg_ℤ
 use Rattle.std.specs.List.{filter, list_all, fold}
 use Rattle.std.specs.Int.{int_min, int_max}
 use Rattle.ival.specs.Numbers.{gcd, distance, residue}
-use Rattle.ival.specs.Forms.{hull, norm, has, least, greatest, step, set_of, is_empty}
+use Rattle.ival.specs.Forms.{hull, norm, has, least, greatest, step, set_of, is_empty, has_ends}
 use Rattle.ival.specs.declared.forms.Ival.{Ival}
 use Rattle.ival.specs.declared.forms.Ival.TheVariants.{Empty, Set, Range, All as Every}
 
@@ -47,14 +47,6 @@ included_of (Range lo hi r m) (Range low high rest stride) =
 included_of (Range lo hi r m) b = false
 included_of Every b = false
 
--- ---- meet
-
--- the least k below n such that start + k * m is r modulo n; n where there is none
-unfoldable pub first_meeting : ℕ → ℤ → ℕ → ℤ → ℕ → ℕ
-first_meeting zero start m r n = 0
-first_meeting (suc k) start m r n =
-  if nat_eq (residue start n) (residue r n) then 0 else suc (first_meeting k (start +ℤ pos m) m r n)
-
 -- ---- widening
 
 -- the greatest of the type's least number and the thresholds up to x
@@ -65,13 +57,21 @@ lower_stop width thresholds x = fold int_max (neg_ℤ (pos (2 ^ (width - 1)))) (
 abbrev pub upper_stop : ℕ → List ℤ → ℤ → ℤ
 upper_stop width thresholds x = fold int_min (pos (2 ^ width) -ℤ pos 1) (filter (λ t. int_le x t) thresholds)
 
--- the ends that have moved go to the next threshold; the class is that of the join
+-- an end that has moved goes to the next threshold
+abbrev pub widened_low : ℤ → ℤ → List ℤ → ℕ → ℤ
+widened_low old new thresholds width = if int_le old new then old else lower_stop width thresholds new
+
+abbrev pub widened_high : ℤ → ℤ → List ℤ → ℕ → ℤ
+widened_high old new thresholds width = if int_le new old then old else upper_stop width thresholds new
+
+-- both ends, in the class of the join
 abbrev pub widened : Ival → Ival → List ℤ → ℕ → Ival
 widened old j thresholds width =
-  norm (if int_le (least old) (least j) then least old else lower_stop width thresholds (least j))
-    (if int_le (greatest j) (greatest old) then greatest old else upper_stop width thresholds (greatest j)) (least j) (step j)
+  norm (widened_low (least old) (least j) thresholds width) (widened_high (greatest old) (greatest j) thresholds width) (least j) (step j)
+
+abbrev pub widened_to : Ival → Ival → List ℤ → ℕ → Ival
+widened_to old j thresholds width =
+  if included_of j old then old else (if has_ends j then widened old j thresholds width else j)
 
 abbrev pub widen_of : Ival → Ival → List ℤ → ℕ → Ival
-widen_of old newer thresholds width =
-  if is_empty old then newer
-  else (if included_of (join_of old newer) old then old else widened old (join_of old newer) thresholds width)
+widen_of old newer thresholds width = if is_empty old then newer else widened_to old (join_of old newer) thresholds width

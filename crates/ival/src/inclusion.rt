@@ -1,10 +1,10 @@
 //! Inclusion and widening.
 
-ghost use Rattle.std.specs.Prelude.{◌≡◌, ◌≤◌, ◌≤ℤ◌, ◌-◌, ◌-ℤ◌, ◌^◌, neg_ℤ, pos, ℤ, int_le, if◌then◌else◌, ◌&&◌};
+ghost use Rattle.std.specs.Prelude.{◌≡◌, ◌≤◌, ◌≤ℤ◌, ◌-◌, ◌-ℤ◌, ◌^◌, neg_ℤ, pos, ℤ, int_le, if◌then◌else◌, ◌&&◌, false};
 ghost use Rattle.std.specs.List.{list_all, filter, fold};
 ghost use Rattle.std.specs.Int.{int_min, int_max};
-ghost use Rattle.ival.specs.Forms.{IsBounded, IsMemberList, IsWellFormed, HasEnds, Within, has, least, greatest, step};
-ghost use Rattle.ival.specs.SetOperations.{included_of, is_in_class, lower_stop, upper_stop, widened, widen_of};
+ghost use Rattle.ival.specs.Forms.{IsBounded, IsWellFormed, HasEnds, has, is_empty};
+ghost use Rattle.ival.specs.SetOperations.{included_of, is_in_class, lower_stop, upper_stop, widened_low, widened_high, widened, widen_of};
 
 use crate::bits::power;
 use crate::forms::Ival;
@@ -60,6 +60,26 @@ impl Ival {
     }
 }
 
+/// One threshold more, where it isn't above `x`.
+fn raised(stop: i128, x: i128, t: i128) -> i128
+    requires stop { IsBounded stop }
+    requires end { IsBounded x }
+    ensures value { result ≡ (if int_le t x then int_max stop t else stop) }
+    ensures bounded { IsBounded result }
+{
+    if t <= x { stop.max(t) } else { stop }
+}
+
+/// One threshold more, where it isn't below `x`.
+fn lowered(stop: i128, x: i128, t: i128) -> i128
+    requires stop { IsBounded stop }
+    requires end { IsBounded x }
+    ensures value { result ≡ (if int_le x t then int_min stop t else stop) }
+    ensures bounded { IsBounded result }
+{
+    if x <= t { stop.min(t) } else { stop }
+}
+
 /// The greatest of the type's least number and the thresholds up to `x`.
 fn lower_stop(width: u32, thresholds: &[i128], x: i128) -> i128
     requires low { 1 ≤ width }
@@ -70,9 +90,7 @@ fn lower_stop(width: u32, thresholds: &[i128], x: i128) -> i128
 {
     let mut stop = -power(width - 1);
     for t in thresholds {
-        if *t <= x {
-            stop = stop.max(*t);
-        }
+        stop = raised(stop, x, *t);
     }
     stop
 }
@@ -87,16 +105,33 @@ fn upper_stop(width: u32, thresholds: &[i128], x: i128) -> i128
 {
     let mut stop = power(width) - 1;
     for t in thresholds {
-        stop = nearer(stop, x, *t);
+        stop = lowered(stop, x, *t);
     }
     stop
 }
 
-/// One threshold more, where it isn't below `x`.
-fn nearer(stop: i128, x: i128, t: i128) -> i128
-    ensures { result ≡ (if int_le x t then int_min stop t else stop) }
+/// The least end after widening: where it stays, the old one.
+fn widened_low(old: i128, new: i128, thresholds: &[i128], width: u32) -> i128
+    requires low { 1 ≤ width }
+    requires high { width ≤ 64 }
+    requires old { IsBounded old }
+    requires new { IsBounded new }
+    ensures value { result ≡ widened_low old new thresholds.now width }
+    ensures bounded { IsBounded result }
 {
-    if x <= t { stop.min(t) } else { stop }
+    if old <= new { old } else { lower_stop(width, thresholds, new) }
+}
+
+/// The greatest end after widening: where it stays, the old one.
+fn widened_high(old: i128, new: i128, thresholds: &[i128], width: u32) -> i128
+    requires low { 1 ≤ width }
+    requires high { width ≤ 64 }
+    requires old { IsBounded old }
+    requires new { IsBounded new }
+    ensures value { result ≡ widened_high old new thresholds.now width }
+    ensures bounded { IsBounded result }
+{
+    if new <= old { old } else { upper_stop(width, thresholds, new) }
 }
 
 /// The ends that have moved go to the next threshold.
@@ -109,15 +144,34 @@ fn widened(old: &Ival, j: &Ival, thresholds: &[i128], width: u32) -> Ival
     ensures formed { IsWellFormed result }
 {
     let (x, y) = (old.span(), j.span());
-    let lo = if x.lo <= y.lo {
-        x.lo
-    } else {
-        lower_stop(width, thresholds, y.lo)
-    };
-    let hi = if y.hi <= x.hi {
-        x.hi
-    } else {
-        upper_stop(width, thresholds, y.hi)
-    };
+    let lo = widened_low(x.lo, y.lo, thresholds, width);
+    let hi = widened_high(x.hi, y.hi, thresholds, width);
     norm(lo, hi, y.lo, y.step)
+}
+
+impl Ival {
+    /// The old set, or one around both whose moved ends stand at a threshold or at an end of the
+    /// union of the signed and the unsigned type of `width` bits, 1 to 64. Each member of both
+    /// sides is from -2^(width-1) to 2^width - 1; the thresholds may be any numbers.
+    pub fn widen(&self, newer: &Ival, thresholds: &[i128], width: u32) -> Ival
+        requires left { IsWellFormed self.now }
+        requires right { IsWellFormed newer.now }
+        requires ends { is_empty self.now ≡ false → HasEnds self.now }
+        requires low { 1 ≤ width }
+        requires high { width ≤ 64 }
+        ensures value { result ≡ widen_of self.now newer.now thresholds.now width }
+        ensures formed { IsWellFormed result }
+    {
+        if self.is_empty() {
+            return *newer;
+        }
+        let j = self.join(newer);
+        if j.included(self) {
+            return *self;
+        }
+        if !j.has_ends() {
+            return j;
+        }
+        widened(self, &j, thresholds, width)
+    }
 }

@@ -1,7 +1,7 @@
 //! The ends and the step of a set, and its membership test.
 
-ghost use Rattle.std.specs.Prelude.{◌≡◌, IfSome, pos, ℤ};
-ghost use Rattle.ival.specs.Forms.{IsBounded, IsOperand, IsOperandNumber, IsWellFormed, HasEnds, has, least, greatest, step, norm, is_empty, only_number};
+ghost use Rattle.std.specs.Prelude.{◌≡◌, IfSome, IsTrue, pos, ℤ};
+ghost use Rattle.ival.specs.Forms.{IsBounded, IsOperand, IsOperandNumber, IsWellFormed, HasEnds, has, least, greatest, step, norm, is_empty, only_number, has_ends};
 
 use crate::forms::Ival;
 use crate::hull::spread;
@@ -48,6 +48,17 @@ impl Ival {
         match self {
             Ival::Empty => true,
             _ => false,
+        }
+    }
+
+    /// Whether the set has a least and a greatest member.
+    pub(crate) fn has_ends(&self) -> bool
+        ensures value { result ≡ has_ends self.now }
+        ensures ends { IsTrue result → IsWellFormed self.now → HasEnds self.now }
+    {
+        match self {
+            Ival::Empty | Ival::All => false,
+            _ => true,
         }
     }
 
