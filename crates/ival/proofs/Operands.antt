@@ -1,5 +1,5 @@
 -- Where the sets that norm, hull and trim make lie.
-use Rattle.std.proofs.Common.{◌≡◌, ℕ, zero, suc, ◌+◌, ◌-◌, ◌*◌, ◌/◌, ◌^◌, ◌<◌, ◌≤◌, max, List, [], ◌∷◌, length, true, false, ℤ, pos, negsuc, neg_ℤ, ◌+ℤ◌, ◌-ℤ◌, ◌≤ℤ◌, ◌<ℤ◌, sym, refl, ap, subst, ◌∙◌, arith, ⊎_elim}
+use Rattle.std.proofs.Common.{ℕ, ◌+◌, ◌-◌, ◌*◌, ◌/◌, ◌^◌, ◌≤◌, max, List, [], ◌∷◌, length, ℤ, pos, neg_ℤ, ◌≤ℤ◌, refl, subst, arith, ⊎_elim}
 use Rattle.std.specs.Prelude.{unsigned_abs}
 use Rattle.std.specs.List.{All, filter}
 use Rattle.std.specs.Int.{int_min, int_max}
@@ -8,10 +8,10 @@ use Rattle.std.proofs.lemmas.Nat.{div-add-mod'}
 use Rattle.std.proofs.lemmas.Bool.{cases_lt}
 use Rattle.std.proofs.lemmas.List.Elements.{All-weaker, All-nil, All-head, All-tail}
 use Rattle.ival.specs.Numbers.{residue, distance}
-use Rattle.ival.specs.Lists.{progression, ascending, least_of, greatest_of, spread}
-use Rattle.ival.specs.Forms.{IsBounded, IsMemberList, IsProgression, IsWellFormed, IsOperand, IsOperandNumber, Within, strided, norm, hull, first_from, last_to, set_of}
+use Rattle.ival.specs.Lists.{ascending, least_of, greatest_of, spread}
+use Rattle.ival.specs.Forms.{IsBounded, IsWellFormed, IsOperand, IsOperandNumber, Within, strided, norm, hull, first_from, last_to, set_of}
 use Rattle.ival.specs.SetOperations.{trim, is_between}
-use Rattle.ival.proofs.FormLemmas.{strided-empty, strided-set, strided-range, norm-strided, norm-empty, hull-none, hull-few, hull-many}
+use Rattle.ival.proofs.FormLemmas.{strided-empty, strided-set, strided-range, norm-strided, hull-none, hull-few, hull-many}
 use Rattle.ival.proofs.ListLemmas.{least_of-one, greatest_of-one}
 use Rattle.ival.proofs.WellFormed.{gathers, hull-well_formed, norm-well_formed, filter-well_formed, filter-all, progression-between, distance-is}
 use Rattle.ival.specs.declared.forms.Ival.{Ival}
@@ -22,20 +22,20 @@ strided-within low high first last r m h k =
     let P : Ival → Type 0 = Within low high in
     let n = distance last first / m in
     by_lt_z last first
-      (λ none. subst P (strided-empty first last r m none) tt)
-      (λ some.
-        let apart = distance-is last first some in
-        let all : n * m ≤ distance last first = omega (arith, div-add-mod' (distance last first) m) in
-        ⊎_elim
-          (λ few. subst P (strided-set first last r m (distance last first) some refl few) (progression-between low high first m (n + 1) h (omega (arith, ints))))
-          (λ many. subst P (strided-range first last r first last (pos (residue r m)) (pos m) m some many refl refl refl refl) (h, k))
-          (cases_lt n 8))
+    (λ none. subst P (strided-empty first last r m none) tt)
+    (λ some.
+    let apart = distance-is last first some in
+    let all : n * m ≤ distance last first = omega (arith, div-add-mod' (distance last first) m) in
+    ⊎_elim
+    (λ few. subst P (strided-set first last r m (distance last first) some refl few) (progression-between low high first m (n + 1) h (omega (arith, ints))))
+    (λ many. subst P (strided-range first last r first last (pos (residue r m)) (pos m) m some many refl refl refl refl) (h, k))
+    (cases_lt n 8))
 
 pub norm-within : (low high lo hi r : ℤ) (m : ℕ) → low ≤ℤ lo → hi ≤ℤ high → Within low high (norm lo hi r m)
 norm-within low high lo hi r m h k =
     let j = max m 1 in
     subst (Within low high) (norm-strided lo hi r _ _ m j refl refl refl)
-      (strided-within low high (first_from lo r j) (last_to hi r j) r j (omega (arith, ints)) (omega (arith, ints)))
+    (strided-within low high (first_from lo r j) (last_to hi r j) r j (omega (arith, ints)) (omega (arith, ints)))
 
 abbrev pub operand_low : ℤ
 operand_low = neg_ℤ (pos (2 ^ 63))
@@ -65,7 +65,7 @@ trim-operand (Range first last r m) lo hi h low high =
     let from : IsBounded l = record { above = omega (arith, ints, clamps, h.0.low.above, low.above); below = omega (arith, ints, clamps, h.0.low.below, low.below) } in
     let to : IsBounded u = record { above = omega (arith, ints, clamps, h.0.high.above, high.above); below = omega (arith, ints, clamps, h.0.high.below, high.below) } in
     operand_from_within (norm l u r (unsigned_abs m)) (norm-well_formed l u r (unsigned_abs m) from to)
-      (norm-within operand_low operand_high l u r (unsigned_abs m) (omega (arith, ints, clamps, h.1.above)) (omega (arith, ints, clamps, h.2.below)))
+    (norm-within operand_low operand_high l u r (unsigned_abs m) (omega (arith, ints, clamps, h.1.above)) (omega (arith, ints, clamps, h.2.below)))
 trim-operand Every lo hi h low high = absurd h
 
 pub hull-within : (low high : ℤ) (xs : List ℤ) → All (λ x. (low ≤ℤ x) × (x ≤ℤ high)) xs → Within low high (hull xs)
@@ -77,9 +77,9 @@ hull-within low high (x ∷ rest) all =
     let lo = least_of-one P x rest (All-head P x rest all) (All-tail P x rest all) in
     let hi = greatest_of-one P x rest (All-head P x rest all) (All-tail P x rest all) in
     ⊎_elim
-      (λ many. subst (Within low high) (hull-many x (x ∷ rest) rest refl many) (norm-within low high (least_of x rest) (greatest_of x rest) x (spread x rest) lo.0 hi.1))
-      (λ few. subst (Within low high) (hull-few kept (x ∷ rest) (omega arith) refl few) r.1)
-      (cases_lt 8 (length kept))
+    (λ many. subst (Within low high) (hull-many x (x ∷ rest) rest refl many) (norm-within low high (least_of x rest) (greatest_of x rest) x (spread x rest) lo.0 hi.1))
+    (λ few. subst (Within low high) (hull-few kept (x ∷ rest) (omega arith) refl few) r.1)
+    (cases_lt 8 (length kept))
 
 pub operand-bounded : (xs : List ℤ) → All IsOperandNumber xs → All IsBounded xs
 operand-bounded xs all = All-weaker IsOperandNumber IsBounded (λ x h. record { above = omega (arith, ints, h.above); below = omega (arith, ints, h.below) }) xs all

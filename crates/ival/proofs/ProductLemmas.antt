@@ -1,5 +1,5 @@
 -- The moduli of a product stay in 128 bits where no corner is past 2^126.
-use Rattle.std.proofs.Common.{◌≡◌, ℕ, zero, suc, ◌+◌, ◌-◌, ◌*◌, ◌%◌, ◌^◌, ◌<◌, ◌≤◌, max, List, [], ◌∷◌, length, get_or, true, false, ℤ, pos, negsuc, ◌+ℤ◌, ◌-ℤ◌, ◌*ℤ◌, ◌≤ℤ◌, ◌<ℤ◌, sym, refl, ap, subst, ◌∙◌, arith, Option, Some, None, ⊎_elim, inl, inr, ltb}
+use Rattle.std.proofs.Common.{◌≡◌, ℕ, zero, suc, ◌+◌, ◌-◌, ◌*◌, ◌%◌, ◌^◌, ◌<◌, ◌≤◌, max, List, [], ◌∷◌, length, get_or, true, ℤ, pos, ◌+ℤ◌, ◌*ℤ◌, ◌≤ℤ◌, refl, ap, subst, ◌∙◌, arith, Option, Some, None, ⊎_elim, inl, inr, ltb}
 use Rattle.std.specs.Prelude.{unsigned_abs, ◌⊎◌}
 use Rattle.std.specs.List.{All, fold}
 use Rattle.std.proofs.lemmas.Int.{ints, unsigned_abs-mul}
@@ -10,13 +10,12 @@ use Rattle.std.proofs.lemmas.List.Elements.{All-head, All-tail, All-cons, All-ni
 use Rattle.std.proofs.Math.Nat.{add-mul, mul-add, mul_assoc, mul_comm}
 use Rattle.ival.specs.Numbers.{distance, gcd, gcd_in}
 use Rattle.ival.specs.Lists.{IsAscending, spread}
-use Rattle.ival.specs.Forms.{HasEnds, IsOperand, IsMemberList, IsProgression, least, greatest, step, is_range}
+use Rattle.ival.specs.Forms.{HasEnds, least, greatest, step, is_range}
 use Rattle.ival.specs.Pairs.{pointwise}
 use Rattle.ival.specs.Arithmetic.{product_of, all_four, corners_of}
 use Rattle.ival.specs.declared.corners.Corners.{Corners}
 use Rattle.ival.specs.declared.forms.Ival.{Ival}
 use Rattle.ival.specs.declared.forms.Ival.TheVariants.{Empty, Set, Range, All as Every}
-use Rattle.ival.proofs.WellFormed.{ascending-tail}
 
 gcd_in-le : (t a b : ℕ) → gcd_in t a b ≤ max a b
 gcd_in-le zero a b = omega arith
@@ -83,12 +82,12 @@ one_range f (Set xs) Every h k e = absurd k
 pub product_small : (x y z : ℤ) → product_of x y ≡ Some z → unsigned_abs x * unsigned_abs y ≤ 2 ^ 126
 product_small x y z e =
     ⊎_elim
-      (λ past.
-        let t : ltb (2 ^ 126) (unsigned_abs (x *ℤ y)) ≡ true = grind (arith, nat_tests) in
-        let none : product_of x y ≡ None = rw t refl in
-        absurd (cc))
-      (λ small. omega (arith, unsigned_abs-mul x y))
-      (cases_lt (2 ^ 126) (unsigned_abs (x *ℤ y)))
+    (λ past.
+    let t : ltb (2 ^ 126) (unsigned_abs (x *ℤ y)) ≡ true = grind (arith, nat_tests) in
+    let none : product_of x y ≡ None = rw t refl in
+    absurd (cc))
+    (λ small. omega (arith, unsigned_abs-mul x y))
+    (cases_lt (2 ^ 126) (unsigned_abs (x *ℤ y)))
 
 pub all_four-parts : (o p q r : Option ℤ) (c : Corners) → all_four o p q r ≡ Some c → (o ≡ Some c.first) × (p ≡ Some c.second) × (q ≡ Some c.third) × (r ≡ Some c.fourth)
 all_four-parts None p q r c e = absurd (cc)
@@ -122,10 +121,11 @@ moduli_fit a b c h k e none =
     let gm : g * m ≤ 2 ^ 126 = product_small (greatest a) (least b) c.third parts.2 in
     let gn : g * n ≤ 2 ^ 126 = product_small (greatest a) (greatest b) c.fourth parts.3 in
     let ml : m * l ≤ 2 ^ 126 = rw (mul_comm m l) lm in
-    let nl : n * l ≤ 2 ^ 126 = rw (mul_comm n l) ln in
-    (side_fits (step a) l g m (step-le a h) lm gm,
-     side_fits (step b) m n l (step-le b k) ml nl,
-     ⊎_elim
-       (λ range. steps_fit (step a) (step b) l g m n (step-range a h range) (step-le b k) lm ln gm gn)
-       (λ range. rw (mul_comm (step a) (step b)) (steps_fit (step b) (step a) m n l g (step-range b k range) (step-le a h) ml (rw (mul_comm m g) gm) nl (rw (mul_comm n g) gn)))
-       (one_range product_of a b h k none))
+    let nl : n * l ≤ 2 ^ 126 = rw (mul_comm n l) ln in (
+      side_fits (step a) l g m (step-le a h) lm gm,
+      side_fits (step b) m n l (step-le b k) ml nl,
+      ⊎_elim
+          (λ range. steps_fit (step a) (step b) l g m n (step-range a h range) (step-le b k) lm ln gm gn)
+          (λ range. rw (mul_comm (step a) (step b)) (steps_fit (step b) (step a) m n l g (step-range b k range) (step-le a h) ml (rw (mul_comm m g) gm) nl (rw (mul_comm n g) gn)))
+          (one_range product_of a b h k none),
+    )

@@ -1,5 +1,5 @@
 -- Sums, differences, products, quotients and remainders of sets.
-use Rattle.std.specs.Prelude.{ℕ, ◌-◌, ◌*◌, ◌/◌, ◌%◌, ◌^◌, max, List, [], ◌∷◌, Option, Some, None, unwrap_or, Bool, true, false, ◌&&◌, ◌||◌, ◌==◌, ℤ, pos, neg_ℤ, negsuc, ◌+ℤ◌, ◌-ℤ◌, ◌*ℤ◌, int_lt, int_le, int_div, int_rem, nat_lt, nat_eq, unsigned_abs, if◌then◌else◌}
+use Rattle.std.specs.Prelude.{ℕ, ◌-◌, ◌*◌, ◌/◌, ◌%◌, ◌^◌, max, [], ◌∷◌, Option, Some, None, unwrap_or, Bool, ◌&&◌, ◌||◌, ℤ, pos, neg_ℤ, negsuc, ◌+ℤ◌, ◌-ℤ◌, ◌*ℤ◌, int_lt, int_div, int_rem, nat_lt, nat_eq, unsigned_abs, if◌then◌else◌}
 use Rattle.std.specs.Int.{int_min, int_max}
 use Rattle.ival.specs.Numbers.{gcd}
 use Rattle.ival.specs.Forms.{IsBounded, norm, only_number, least, greatest, step, is_empty}
@@ -7,7 +7,7 @@ use Rattle.ival.specs.Pairs.{pointwise}
 use Rattle.ival.specs.SetOperations.{join_of, trim}
 use Rattle.ival.specs.declared.corners.Corners.{Corners}
 use Rattle.ival.specs.declared.forms.Ival.{Ival}
-use Rattle.ival.specs.declared.forms.Ival.TheVariants.{Empty, Set, Range, All as Every}
+use Rattle.ival.specs.declared.forms.Ival.TheVariants.{Empty, Set, All as Every}
 
 -- the least and the greatest of four numbers
 abbrev pub least4 : ℤ → ℤ → ℤ → ℤ → ℤ
@@ -42,11 +42,11 @@ remainder_of x y = if nat_eq (unsigned_abs y) 0 then None else Some (int_rem x y
 
 abbrev pub add_of : Ival → Ival → Ival
 add_of a b = unwrap_or (pointwise sum_of a b)
-  (norm (least a +ℤ least b) (greatest a +ℤ greatest b) (least a +ℤ least b) (gcd (step a) (step b)))
+    (norm (least a +ℤ least b) (greatest a +ℤ greatest b) (least a +ℤ least b) (gcd (step a) (step b)))
 
 abbrev pub sub_of : Ival → Ival → Ival
 sub_of a b = unwrap_or (pointwise difference_of a b)
-  (norm (least a -ℤ greatest b) (greatest a -ℤ least b) (least a -ℤ greatest b) (gcd (step a) (step b)))
+    (norm (least a -ℤ greatest b) (greatest a -ℤ least b) (least a -ℤ greatest b) (gcd (step a) (step b)))
 
 -- 0 - x, and -1 - x
 abbrev pub neg_of : Ival → Ival
@@ -113,11 +113,11 @@ between_corners (Some c) r m = norm (least_corner c) (greatest_corner c) r m
 
 abbrev pub quotients_by : Ival → Ival → Option ℤ → Ival
 quotients_by a part c =
-  if is_empty part then Empty else between_corners (corners_of quotient_of a part) (quotient_rest a c) (quotient_step a c)
+    if is_empty part then Empty else between_corners (corners_of quotient_of a part) (quotient_rest a c) (quotient_step a c)
 
 abbrev pub div_of : Ival → Ival → Ival
 div_of a b = unwrap_or (pointwise quotient_of a b)
-  (join_of (quotients_by a (trim b (neg_ℤ (pos (2 ^ 126))) (negsuc 0)) (only_number b)) (quotients_by a (trim b (pos 1) (pos (2 ^ 126))) (only_number b)))
+    (join_of (quotients_by a (trim b (neg_ℤ (pos (2 ^ 126))) (negsuc 0)) (only_number b)) (quotients_by a (trim b (pos 1) (pos (2 ^ 126))) (only_number b)))
 
 -- ---- remainders, with the sign of the dividend
 
@@ -142,8 +142,8 @@ upper_remainder hi size = if int_lt (pos 0) hi then int_min hi (pos (size - 1)) 
 
 abbrev pub rem_ends : Ival → Ival → Ival
 rem_ends a b =
-  if nat_eq (divisor_size b) 0 then Empty
-  else norm
+    if nat_eq (divisor_size b) 0 then Empty
+    else norm
     (lower_remainder (least a) (divisor_size b)) (upper_remainder (greatest a) (divisor_size b))
     (remainder_rest a (only_number b)) (remainder_step a (only_number b))
 

@@ -1,5 +1,5 @@
 -- Shifts and bit operations on sets. Bits are those of two's complement.
-use Rattle.std.specs.Prelude.{ℕ, zero, suc, ◌-◌, ◌^◌, max, List, [], ◌∷◌, ◌++◌, Option, Some, None, unwrap_or, Bool, ◌&&◌, ℤ, pos, neg_ℤ, ◌-ℤ◌, int_le, int_lt, nat_lt, unsigned_abs, if◌then◌else◌}
+use Rattle.std.specs.Prelude.{ℕ, zero, suc, ◌-◌, ◌^◌, max, List, [], ◌++◌, Option, Some, None, unwrap_or, Bool, ◌&&◌, ℤ, pos, neg_ℤ, ◌-ℤ◌, int_le, int_lt, unsigned_abs, if◌then◌else◌}
 use Rattle.std.specs.Int.{w128, int_min, int_max, int_bit_and, int_bit_or, int_bit_xor, int_shr, leading_zeros}
 use Rattle.std.specs.Option.{option_to_list}
 use Rattle.std.specs.Int.Signed.{mag}
@@ -7,7 +7,6 @@ use Rattle.ival.specs.Forms.{norm, hull, has, least, greatest}
 use Rattle.ival.specs.Pairs.{pointwise}
 use Rattle.ival.specs.Arithmetic.{corners_of, between_corners, mul_of}
 use Rattle.ival.specs.declared.forms.Ival.{Ival}
-use Rattle.ival.specs.declared.forms.Ival.TheVariants.{Empty, Set, Range, All as Every}
 
 -- ---- shifts
 
@@ -63,12 +62,12 @@ natural_range lo b = norm lo (pos (2 ^ b) -ℤ pos 1) (pos 0) 1
 
 abbrev pub and_ends : Ival → Ival → Ival
 and_ends a b =
-  if is_natural a then (if is_natural b then norm (pos 0) (int_min (greatest a) (greatest b)) (pos 0) 1 else norm (pos 0) (greatest a) (pos 0) 1)
-  else (if is_natural b then norm (pos 0) (greatest b) (pos 0) 1 else signed_range (width_of a b))
+    if is_natural a then (if is_natural b then norm (pos 0) (int_min (greatest a) (greatest b)) (pos 0) 1 else norm (pos 0) (greatest a) (pos 0) 1)
+    else (if is_natural b then norm (pos 0) (greatest b) (pos 0) 1 else signed_range (width_of a b))
 
 abbrev pub or_ends : Ival → Ival → Ival
 or_ends a b =
-  if is_natural a && is_natural b then natural_range (int_max (least a) (least b)) (width_of a b) else signed_range (width_of a b)
+    if is_natural a && is_natural b then natural_range (int_max (least a) (least b)) (width_of a b) else signed_range (width_of a b)
 
 abbrev pub xor_ends : Ival → Ival → Ival
 xor_ends a b = if is_natural a && is_natural b then natural_range (pos 0) (width_of a b) else signed_range (width_of a b)

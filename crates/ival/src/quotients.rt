@@ -18,7 +18,11 @@ impl Rule for Quotient {
     ghost of = { λ _. quotient_of };
 
     fn apply(&self, x: i128, y: i128) -> Option<i128> {
-        if y.unsigned_abs() == 0 { None } else { Some(x / y) }
+        if y.unsigned_abs() == 0 {
+            None
+        } else {
+            Some(x / y)
+        }
     }
 }
 
@@ -29,7 +33,11 @@ impl Rule for Remainder {
     ghost of = { λ _. remainder_of };
 
     fn apply(&self, x: i128, y: i128) -> Option<i128> {
-        if y.unsigned_abs() == 0 { None } else { Some(x % y) }
+        if y.unsigned_abs() == 0 {
+            None
+        } else {
+            Some(x % y)
+        }
     }
 }
 
@@ -130,7 +138,12 @@ impl Ival {
         match Corners::of(&Quotient, self.span(), part.span()) {
             Some(corners) => {
                 let class = self.quotient_class(divisor);
-                norm(corners.least(), corners.greatest(), class.rest, class.modulus)
+                norm(
+                    corners.least(),
+                    corners.greatest(),
+                    class.rest,
+                    class.modulus,
+                )
             }
             None => Ival::Empty,
         }
