@@ -1,0 +1,29 @@
+//! Integer sets after Frama-C Eva: exact sets of up to eight numbers, and strided ranges beyond.
+//!
+//! Each call equals its formula (`specs/`), answers a well-formed set, and takes no memory. A set
+//! is well-formed where its numbers ascend and lie from -2^126 to 2^126, and where a range has
+//! more than eight members, its ends among them. The crate stands on `std` alone.
+#![tactic(auto)]
+
+mod bits;
+mod corners;
+mod filters;
+mod forms;
+mod hull;
+mod inclusion;
+mod join;
+mod members;
+mod numbers;
+mod pairs;
+mod products;
+mod quotients;
+mod ranges;
+mod shifts;
+mod spans;
+mod sums;
+
+pub use forms::{Cmp, Ival};
+pub use members::Members;
+
+#[cfg(test)]
+mod tests;
