@@ -1,0 +1,17 @@
+//! Finite maps from keys to payload trees, over any store: big-endian Patricia tries after Okasaki and
+//! Gill (Fast Mergeable Integer Maps, 1998).
+//!
+//! A trie is canonical, so two maps are equal exactly where their roots are `same`, and what one map
+//! shares with another is skipped without a look. Stands on `store_api` alone.
+#![tactic(auto, using(store_api::specs::Bag::one_self))]
+
+mod delete;
+mod insert;
+mod lookup;
+mod map;
+mod nodes;
+
+pub use map::{Map, add, empty, find, remove, same};
+
+#[cfg(test)]
+mod tests;
