@@ -12,6 +12,8 @@ mod line;
 mod literal;
 mod number;
 mod piece;
+#[cfg(test)]
+mod pump;
 mod scan;
 #[cfg(test)]
 mod tests;

@@ -1,5 +1,6 @@
 use crate::constant::{IntConstant, Longs, char_value, int_constant, string_bytes};
 use crate::error::LexStop;
+use crate::pump;
 use crate::scan::tokens;
 use crate::token::{Token, TokenKind};
 use std::alloc::{AllocError, Global};
@@ -221,36 +222,8 @@ fn a_file_of_blanks(rt: HostRuntime) -> Result<(), AllocError> {
 
 #[test]
 fn a_preprocessed_file(rt: HostRuntime) -> Result<(), AllocError> {
-    let file = b"# 0 \"pump.c\"
-# 0 \"<built-in>\"
-# 1 \"pump.c\"
-# 1 \"/usr/include/stdint.h\" 1 3 4
-typedef unsigned char __uint8_t;
-# 4 \"pump.c\" 2
-extern uint16_t read_level(void);
-enum mode { IDLE };
-";
-    let got = shown(rt.alloc(), file)?;
-    let want = "K typedef 1 /usr/include/stdint.h
-K unsigned 1 /usr/include/stdint.h
-K char 1 /usr/include/stdint.h
-N __uint8_t 1 /usr/include/stdint.h
-P ; 1 /usr/include/stdint.h
-K extern 4 pump.c
-N uint16_t 4 pump.c
-N read_level 4 pump.c
-P ( 4 pump.c
-K void 4 pump.c
-P ) 4 pump.c
-P ; 4 pump.c
-K enum 5 pump.c
-N mode 5 pump.c
-P { 5 pump.c
-N IDLE 5 pump.c
-P } 5 pump.c
-P ; 5 pump.c
-";
-    assert_eq!(&rt; got.as_str(), want);
+    let got = shown(rt.alloc(), pump::FILE)?;
+    assert_eq!(&rt; got.as_str(), pump::TOKENS);
     Ok(())
 }
 
