@@ -1,4 +1,4 @@
-ghost use Rattle.std.specs.Prelude.{◌≡◌, List, ℕ, [], IsSome, IfSome};
+ghost use Rattle.std.specs.Prelude.{◌≡◌, List, ℕ, [], Some, IsSome, IfSome};
 ghost use Rattle.eva_front.specs.Outside.{bytes_of, held, kept_whole};
 
 use crate::outside::{Failed, Sink, Source};
@@ -13,7 +13,9 @@ pub struct SureFiles<'a> {
 }
 
 impl<'a> SureFiles<'a> {
-    pub fn new(files: &'a [(&'a str, &'a [u8])]) -> SureFiles<'a> {
+    pub fn new(files: &'a [(&'a str, &'a [u8])]) -> SureFiles<'a>
+        ensures { result.files.now ≡ files.now }
+    {
         SureFiles { files, left: None }
     }
 }
@@ -65,7 +67,10 @@ pub struct SurePage {
 }
 
 impl SurePage {
-    pub fn new(alloc: Global) -> SurePage {
+    /// An empty page.
+    pub fn new(alloc: Global) -> SurePage
+        ensures { kept_whole result.whole result.bytes.items ≡ Some [] }
+    {
         SurePage {
             bytes: Vec::new(alloc),
             whole: true,
