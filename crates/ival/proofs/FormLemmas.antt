@@ -1,7 +1,9 @@
 -- Facts on the forms of sets.
 use Rattle.std.proofs.Common.{◌≡◌, ℕ, ◌+◌, ◌*◌, ◌/◌, ◌<◌, ◌≤◌, max, ℤ, pos, ◌≤ℤ◌, ◌<ℤ◌, sym, refl, ap, ◌∙◌, arith, true, false, cond, ltb, leb}
-use Rattle.std.specs.Prelude.{int_lt}
+use Rattle.std.specs.Prelude.{int_lt, Decides}
 use Rattle.std.proofs.lemmas.Int.{ints}
+use Rattle.std.specs.Ordering.{int_eq}
+use Rattle.std.proofs.lemmas.Bool.Decides.{Decides-int_eq}
 use Rattle.std.proofs.lemmas.Nat.{mul-le, div-add-mod'}
 use Rattle.std.proofs.lemmas.Bool.Decides.{nat_tests}
 use Rattle.ival.specs.Numbers.{residue, distance}
@@ -24,6 +26,9 @@ nat_lt_yes x y h = grind (arith, nat_tests)
 
 nat_lt_no : (x y : ℕ) → y ≤ x → ltb x y ≡ false
 nat_lt_no x y h = grind (arith, nat_tests)
+
+pub int_eq-no : (x y : ℤ) → (x ≡ y → ⊥) → int_eq x y ≡ false
+int_eq-no x y h = elim (int_eq x y) as (λ b. Decides b (x ≡ y) → b ≡ false) [ true ↦ (λ d. absurd (h (d.0 refl))) | false ↦ (λ d. refl) ] (Decides-int_eq x y)
 
 pub strided-empty : (first last r : ℤ) (m : ℕ) → last <ℤ first → Empty ≡ strided first last r m
 unfolding strided

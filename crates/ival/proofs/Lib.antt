@@ -7,3 +7,7 @@ pub mod WellFormed
 pub mod ProductLemmas
 pub mod Operands
 pub mod BitLemmas
+pub mod CongruenceLemmas
+pub mod ComparisonLemmas
+pub mod MeetLemmas
+pub mod CommonNumbers

@@ -1,7 +1,10 @@
 pub mod Arithmetic
 pub mod BitOperations
+pub mod Casts
+pub mod Comparisons
 pub mod Forms
 pub mod Lists
+pub mod Meet
 pub mod Members
 pub mod Numbers
 pub mod Pairs

@@ -6,12 +6,16 @@
 #![tactic(auto)]
 
 mod bits;
+mod casts;
+mod comparisons;
+mod congruences;
 mod corners;
 mod filters;
 mod forms;
 mod hull;
 mod inclusion;
 mod join;
+mod meet;
 mod members;
 mod numbers;
 mod pairs;

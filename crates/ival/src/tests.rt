@@ -21,3 +21,14 @@ fn sets_and_ranges(rt: HostRuntime) -> Result<(), Fail> {
     assert!(rt; Ival::of_set(&[2, 4]).included(&Ival::interval(0, 20)));
     Ok(())
 }
+
+#[test]
+fn meets_and_casts(rt: HostRuntime) -> Result<(), Fail> {
+    let low = Ival::interval(0, 20);
+    assert!(rt; low.meet(&Ival::interval(18, 40)) == Ival::of_set(&[18, 19, 20]));
+    assert!(rt; low.meet(&Ival::of_set(&[3, 40])) == Ival::of_set(&[3]));
+    assert!(rt; Ival::of_set(&[300, -1]).cast(8, false) == Ival::of_set(&[44, 255]));
+    assert!(rt; Ival::interval(0, 300).cast(8, true) == Ival::interval(-128, 127));
+    assert!(rt; Ival::interval(256, 266).cast(8, false) == Ival::interval(0, 10));
+    Ok(())
+}
