@@ -1,9 +1,9 @@
-use Rattle.std.proofs.Common.{ℕ, zero, suc, ◌+◌, ◌-◌, ◌*◌, ◌<◌, ◌≤◌, ◌≡◌, ◌≢◌, ◌/◌, ◌^◌, cond, eqb, Bool, true, false, Option, Some, None, arith, refl, sym, ap, ◌∙◌, subst, inl, inr, ◌⊎◌, IsTrue, ◌↔◌}
+use Rattle.std.proofs.Common.{ℕ, ◌+◌, ◌*◌, ◌≤◌, ◌≡◌, ◌/◌, ◌^◌, cond, eqb, Bool, true, false, Some, None, arith, refl, sym, ap, ◌∙◌, subst, inl, inr, IsTrue, ◌↔◌}
 use Rattle.std.proofs.lemmas.Bool.{cases_lt}
 use Rattle.std.proofs.lemmas.Bool.Decides.{eqb_tells, nat_tests}
 use Rattle.store_api.specs.declared.Shape.{Shape}
 use Rattle.store_api.specs.Tree.{Tree, Nil, Node}
-use Rattle.hptmap.specs.Trie.{leaf_shape, branch_shape, is_leaf, key_of, level_of, top_of, either, map_of, Within, split_at, IsLeaf, IsBranch, IsTrie, IsMap}
+use Rattle.hptmap.specs.Trie.{leaf_shape, branch_shape, is_leaf, key_of, level_of, either, map_of, Within, split_at, IsTrie}
 use Rattle.hptmap.proofs.Bits.{shorter, shorten}
 use Rattle.hptmap.proofs.Tries.{leaf_of, branch_of, no_nil, outside, within_own, leaf_or, node_left, node_right, top_branch, map_branch}
 
@@ -11,7 +11,7 @@ some_none : {A : Type 0} (p : A) → Some p ≡ None → ⊥
 some_none p e = cc
 
 -- a key that is there has the prefix of the block
-inside : (t : Tree) (n q x : ℕ) (p : Tree) → IsTrie t → Within t n q → map_of t x ≡ Some p → x / 2 ^ n ≡ q
+pub inside : (t : Tree) (n q x : ℕ) (p : Tree) → IsTrie t → Within t n q → map_of t x ≡ Some p → x / 2 ^ n ≡ q
 inside t n q x p h w e = elim (eqb_tells (x / 2 ^ n) q) [ inl f ↦ f.1 | inr f ↦ absurd (some_none p (sym e ∙ outside t n q x h w f.1)) ]
 
 map_leaf : (s : Shape) (a b : Tree) (x : ℕ) → is_leaf s ≡ true → map_of (Node s a b) x ≡ cond (eqb (key_of s) x) (Some a) None
@@ -27,7 +27,7 @@ only_own k x a p e = elim (eqb_tells k x) [
 ]
 
 -- every trie has a key
-some_key : (t : Tree) → IsTrie t → (x : ℕ) × ((p : Tree) × (map_of t x ≡ Some p))
+pub some_key : (t : Tree) → IsTrie t → (x : ℕ) × ((p : Tree) × (map_of t x ≡ Some p))
 some_key Nil h = absurd (no_nil h)
 some_key (Node s a b) h =
     elim (leaf_or s) [
@@ -46,7 +46,7 @@ pub record Apart (t : Tree) (n r : ℕ) : Type 0 where
   pub left : low / 2 ^ n ≡ 2 * r
   pub right : high / 2 ^ n ≡ 2 * r + 1
 
-apart : (s : Shape) (a b : Tree) → IsTrie (Node s a b) → is_leaf s ≡ false → Apart (Node s a b) (level_of s) (key_of s / 2 ^ (level_of s + 1))
+pub apart : (s : Shape) (a b : Tree) → IsTrie (Node s a b) → is_leaf s ≡ false → Apart (Node s a b) (level_of s) (key_of s / 2 ^ (level_of s + 1))
 apart s a b h e =
     let i = branch_of s a b h e in let k = some_key a i.1 in let j = some_key b i.2 in
     let q = inside b (level_of s) (2 * (key_of s / 2 ^ (level_of s + 1)) + 1) j.0 j.1.0 i.2 i.0.right j.1.1 in

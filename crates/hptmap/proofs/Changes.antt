@@ -21,7 +21,7 @@ leaf_map k p x = grind (arith, nat_tests)
 test_same : (k j x : ℕ) (o p q : Option Tree) → k ≡ j → cond (eqb x j) o (cond (eqb k x) p q) ≡ cond (eqb x j) o q
 test_same k j x o p q e = grind (arith, nat_tests)
 
-map_leaf : (s : Shape) (a b : Tree) (x : ℕ) → is_leaf s ≡ true → map_of (Node s a b) x ≡ cond (eqb (key_of s) x) (Some a) None
+pub map_leaf : (s : Shape) (a b : Tree) (x : ℕ) → is_leaf s ≡ true → map_of (Node s a b) x ≡ cond (eqb (key_of s) x) (Some a) None
 map_leaf s a b x e = ap (λ c. cond c (cond (eqb (key_of s) x) (Some a) None) (either (map_of a x) (map_of b x))) e
 
 node_added_leaf : (s : Shape) (a b : Tree) (k : ℕ) (p : Tree) → IsTrie (Node s a b) → is_leaf s ≡ true → key_of s ≡ k → k < 2 ^ 32 → depth p ≤ 95 → Adds (Node s a b) k p (leaf k p)
@@ -32,10 +32,10 @@ node_added_leaf s a b k p h e f l d = record {
 }
 
 -- the left side replaced
-replaced_left : (s : Shape) (a b r : Tree) → IsBranch s a b → Within r (level_of s) (2 * (key_of s / 2 ^ (level_of s + 1))) → IsBranch s r b
+pub replaced_left : (s : Shape) (a b r : Tree) → IsBranch s a b → Within r (level_of s) (2 * (key_of s / 2 ^ (level_of s + 1))) → IsBranch s r b
 replaced_left s a b r i w = record { shape = i.shape; key = i.key; level = i.level; split = i.split; left = w; right = i.right }
 
-replaced_right : (s : Shape) (a b r : Tree) → IsBranch s a b → Within r (level_of s) (2 * (key_of s / 2 ^ (level_of s + 1)) + 1) → IsBranch s a r
+pub replaced_right : (s : Shape) (a b r : Tree) → IsBranch s a b → Within r (level_of s) (2 * (key_of s / 2 ^ (level_of s + 1)) + 1) → IsBranch s a r
 replaced_right s a b r i w = record { shape = i.shape; key = i.key; level = i.level; split = i.split; left = i.left; right = w }
 
 either_cond : (c : Bool) (o p q : Option Tree) → (c ≡ true → q ≡ None) → either (cond c o p) q ≡ cond c o (either p q)
@@ -92,11 +92,11 @@ pub told_low : (k j n : ℕ) → k < j → k / 2 ^ n ≢ j / 2 ^ n → k / 2 ^ (
 told_low k j n l d e = let p = above_split j k n (omega arith) in let a = shorter k n in let b = shorter j n in (omega arith, omega arith)
 
 -- a node whose block lacks a key is within the bits that tell its key and that one apart
-below_bit : (s : Shape) (k n : ℕ) → k / 2 ^ top_of s ≢ key_of s / 2 ^ top_of s → k / 2 ^ (n + 1) ≡ key_of s / 2 ^ (n + 1) → top_of s ≤ n
+pub below_bit : (s : Shape) (k n : ℕ) → k / 2 ^ top_of s ≢ key_of s / 2 ^ top_of s → k / 2 ^ (n + 1) ≡ key_of s / 2 ^ (n + 1) → top_of s ≤ n
 below_bit s k n d e = elim (cases_lt n (top_of s)) [ inl l ↦ absurd (d (shorten k (key_of s) (n + 1) (top_of s) (omega arith) e)) | inr g ↦ g ]
 
 -- and so is the branch over both
-over_bit : (k j n m q : ℕ) → k / 2 ^ n ≢ j / 2 ^ n → j / 2 ^ m ≡ q → k / 2 ^ m ≡ q → n + 1 ≤ m
+pub over_bit : (k j n m q : ℕ) → k / 2 ^ n ≢ j / 2 ^ n → j / 2 ^ m ≡ q → k / 2 ^ m ≡ q → n + 1 ≤ m
 over_bit k j n m q d e f = elim (cases_lt n m) [ inl l ↦ omega arith | inr g ↦ absurd (d (shorten k j m n g (f ∙ sym e))) ]
 
 pub absent : (s : Shape) (a b : Tree) (k : ℕ) → IsTrie (Node s a b) → k / 2 ^ top_of s ≢ key_of s / 2 ^ top_of s → map_of (Node s a b) k ≡ None

@@ -2,3 +2,8 @@ pub mod Bits
 pub mod Tries
 pub mod Changes
 pub mod Canonical
+pub mod Merging
+pub mod Including
+pub mod Maps
+pub mod Replacing
+pub mod Walking

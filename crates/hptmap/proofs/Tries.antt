@@ -82,10 +82,10 @@ prefix_high k s n e f l =
     let p = above_split k s n l in let q : s / 2 ^ n ≡ 2 * (s / 2 ^ (n + 1)) + 1 = ap (λ (i : ℕ). i / 2 ^ n) e ∙ split_prefix s n in
     let d = shorter k n in omega arith
 
-not_right : (k s n : ℕ) → s ≡ split_at s n → k < s → k / 2 ^ n ≢ 2 * (s / 2 ^ (n + 1)) + 1
+pub not_right : (k s n : ℕ) → s ≡ split_at s n → k < s → k / 2 ^ n ≢ 2 * (s / 2 ^ (n + 1)) + 1
 not_right k s n e l f = absurd (let p = below_split k s n e l in let q : s / 2 ^ n ≡ 2 * (s / 2 ^ (n + 1)) + 1 = ap (λ (i : ℕ). i / 2 ^ n) e ∙ split_prefix s n in omega arith)
 
-not_left : (k s n : ℕ) → s ≡ split_at s n → s ≤ k → k / 2 ^ n ≢ 2 * (s / 2 ^ (n + 1))
+pub not_left : (k s n : ℕ) → s ≡ split_at s n → s ≤ k → k / 2 ^ n ≢ 2 * (s / 2 ^ (n + 1))
 not_left k s n e l f = absurd (let p = above_split k s n l in let q : s / 2 ^ n ≡ 2 * (s / 2 ^ (n + 1)) + 1 = ap (λ (i : ℕ). i / 2 ^ n) e ∙ split_prefix s n in omega arith)
 
 -- a key is found at its side
