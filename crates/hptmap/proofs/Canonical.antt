@@ -20,7 +20,7 @@ map_leaf s a b x e = ap (λ c. cond c (cond (eqb (key_of s) x) (Some a) None) (e
 at_own : (k : ℕ) (a : Tree) → cond (eqb k k) (Some a) None ≡ Some a
 at_own k a = grind (arith, nat_tests)
 
-only_own : (k x : ℕ) (a p : Tree) → cond (eqb k x) (Some a) None ≡ Some p → (k ≡ x) × (a ≡ p)
+pub only_own : (k x : ℕ) (a p : Tree) → cond (eqb k x) (Some a) None ≡ Some p → (k ≡ x) × (a ≡ p)
 only_own k x a p e = elim (eqb_tells k x) [
   | inl f ↦ (f.1, let g : Some a ≡ Some p = sym (ap (λ c. cond c (Some a) None) f.0) ∙ e in cc)
   | inr f ↦ absurd (some_none p (sym e ∙ ap (λ c. cond c (Some a) None) f.0))

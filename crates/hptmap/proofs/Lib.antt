@@ -7,3 +7,5 @@ pub mod Including
 pub mod Maps
 pub mod Replacing
 pub mod Walking
+pub mod Rising
+pub mod Payloads

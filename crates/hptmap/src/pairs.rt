@@ -1,7 +1,9 @@
 // The pairs of a map, by rising key.
-ghost use Rattle.std.specs.Prelude.{◌≡◌, ℕ, ◌+◌, ◌<◌, ◌≤◌, IfOk, IfErr, IfSome, List, [], ◌∷◌, ◌++◌};
+ghost use Rattle.std.specs.Prelude.{◌≡◌, ℕ, ◌+◌, ◌<◌, ◌≤◌, IfOk, IfErr, IfSome, List, [], ◌∷◌, ◌++◌, eqb};
+ghost use Rattle.std.specs.List.Sorted.{IsStrictlyIncreasing};
+ghost use Rattle.std.specs.Map.{keys_of, lookup};
 ghost use Rattle.hptmap.specs.Pairs.{pair_holds, pair_trees};
-ghost use Rattle.hptmap.specs.Trie.{IsTrie, MapIn, entries, map_tree};
+ghost use Rattle.hptmap.specs.Trie.{IsTrie, MapIn, entries, map_of, map_tree};
 ghost use Rattle.store_api.specs.Tree.{depth, kid, shape_is};
 ghost use Rattle.store_api.specs.declared.Shape.{Shape};
 ghost use Rattle.store_api.specs.declared.StoreStop.TheVariants.{Memory};
@@ -113,6 +115,8 @@ pub fn walk<S: Store>(alloc: Global, s: &mut S, m: &Map<S::Hold>) -> Got<Vec<(u3
     requires map { MapIn S.name (S.bag s.old) m.now.root }
     ensures ok { IfOk result (λ v. Trades (S.bag s.old) (S.bag s.new) none (pair_holds S.name v.items)) }
     ensures pairs { IfOk result (λ v. pair_trees S.name (S.bag s.new) v.items ≡ entries (map_tree S.name (S.bag s.old) m.now.root)) }
+    ensures rising { IfOk result (λ v. IsStrictlyIncreasing (keys_of v.items)) }
+    ensures map { IfOk result (λ v. (x : ℕ) → lookup (λ k. eqb k x) (pair_trees S.name (S.bag s.new) v.items) ≡ map_of (map_tree S.name (S.bag s.old) m.now.root) x) }
     ensures err { IfErr result (Stops (S.bag s.old) (S.bag s.new) none) }
 {
     let pairs = Vec::new(alloc);
