@@ -1,4 +1,4 @@
-use Rattle.std.proofs.Common.{ℕ, ◌+◌, ◌*◌, ◌<◌, ◌≤◌, ◌≡◌, ◌/◌, ◌^◌, cond, eqb, Bool, true, false, Option, Some, None, List, [], ◌∷◌, ◌++◌, arith, refl, sym, ap, ◌∙◌, subst, inl, inr, Result, Ok, Err, IfOk, Less}
+use Rattle.std.proofs.Common.{ℕ, ◌+◌, ◌*◌, ◌<◌, ◌≡◌, ◌/◌, ◌^◌, cond, eqb, Bool, true, false, Option, Some, List, [], ◌∷◌, ◌++◌, arith, refl, sym, ap, ◌∙◌, subst, inl, inr, Result, Ok, Err, IfOk, Less}
 use Rattle.std.specs.List.{AllByRecursion}
 use Rattle.std.specs.List.Sorted.{IsStrictlyIncreasing, IsStrictlySortedBy}
 use Rattle.std.specs.Map.{keys_of, lookup}
@@ -10,11 +10,11 @@ use Rattle.std.proofs.lemmas.Bool.{cases_lt}
 use Rattle.store_api.specs.declared.Shape.{Shape}
 use Rattle.store_api.specs.Tree.{Tree, Nil, Node}
 use Rattle.store_api.specs.Bag.{Bag}
-use Rattle.hptmap.specs.Trie.{entries, either, is_leaf, key_of, level_of, map_of, IsTrie, MapIn, Within, map_tree}
+use Rattle.hptmap.specs.Trie.{entries, either, is_leaf, key_of, level_of, map_of, IsTrie, Within}
 use Rattle.hptmap.specs.Pairs.{pair_trees}
 use Rattle.hptmap.proofs.Bits.{above_split, shorten, shorter}
 use Rattle.hptmap.proofs.Changes.{map_leaf}
-use Rattle.hptmap.proofs.Tries.{branch_of, leaf_or, map_branch, no_nil, top_branch, within_own}
+use Rattle.hptmap.proofs.Tries.{branch_of, leaf_or, map_branch, top_branch}
 
 -- the pairs of a trie are its map
 cond_either : (c : Bool) (a : Tree) (o p : Option Tree) → cond c (Some a) (either o p) ≡ either (cond c (Some a) o) p
@@ -77,9 +77,9 @@ keys_within (Node s a b) n q h w =
           let i = branch_of s a b h e in let l = level_of s in let r = key_of s / 2 ^ (l + 1) in
           let up : (k : ℕ) → k / 2 ^ (l + 1) ≡ r → k / 2 ^ n ≡ q = λ k d. shorten k (key_of s) (l + 1) n (omega (arith, w.0, top_branch s e)) d ∙ w.1 in
           subst (AllByRecursion (λ k. k / 2 ^ n ≡ q)) (sym (keys_branch s a b e)) (
-            all_both (λ k. k / 2 ^ n ≡ q) (keys_of (entries a)) (keys_of (entries b))
-            (all_map (λ k. k / 2 ^ l ≡ 2 * r) (λ k. k / 2 ^ n ≡ q) (λ k d. up k (shorter k l ∙ ap (λ (m : ℕ). m / 2) d ∙ (omega arith))) (keys_of (entries a)) (keys_within a l (2 * r) i.1 i.0.left))
-            (all_map (λ k. k / 2 ^ l ≡ 2 * r + 1) (λ k. k / 2 ^ n ≡ q) (λ k d. up k (shorter k l ∙ ap (λ (m : ℕ). m / 2) d ∙ (omega arith))) (keys_of (entries b)) (keys_within b l (2 * r + 1) i.2 i.0.right))
+          all_both (λ k. k / 2 ^ n ≡ q) (keys_of (entries a)) (keys_of (entries b))
+          (all_map (λ k. k / 2 ^ l ≡ 2 * r) (λ k. k / 2 ^ n ≡ q) (λ k d. up k (shorter k l ∙ ap (λ (m : ℕ). m / 2) d ∙ (omega arith))) (keys_of (entries a)) (keys_within a l (2 * r) i.1 i.0.left))
+          (all_map (λ k. k / 2 ^ l ≡ 2 * r + 1) (λ k. k / 2 ^ n ≡ q) (λ k d. up k (shorter k l ∙ ap (λ (m : ℕ). m / 2) d ∙ (omega arith))) (keys_of (entries b)) (keys_within b l (2 * r + 1) i.2 i.0.right))
           )
     ]
 
@@ -93,8 +93,8 @@ keys_sorted (Node s a b) h =
       | inr e ↦
           let i = branch_of s a b h e in let l = level_of s in let r = key_of s / 2 ^ (l + 1) in
           subst (IsStrictlySortedBy nat_cmp) (sym (keys_branch s a b e)) (
-            sorted_both l r (keys_of (entries a)) (keys_of (entries b)) (keys_sorted a i.1) (keys_sorted b i.2)
-            (keys_within a l (2 * r) i.1 i.0.left) (keys_within b l (2 * r + 1) i.2 i.0.right)
+          sorted_both l r (keys_of (entries a)) (keys_of (entries b)) (keys_sorted a i.1) (keys_sorted b i.2)
+          (keys_within a l (2 * r) i.1 i.0.left) (keys_within b l (2 * r + 1) i.2 i.0.right)
           )
     ]
 

@@ -1,4 +1,4 @@
-use Rattle.std.specs.Prelude.{ℕ, ◌≡◌, ◌&&◌, Bool, true, not, nat_le, nat_lt, cond, IsTrue, [], ◌∷◌, refl}
+use Rattle.std.specs.Prelude.{ℕ, ◌≡◌, ◌&&◌, Bool, true, false, not, nat_le, nat_lt, cond, IsTrue, [], ◌∷◌, refl}
 use Rattle.std.proofs.lemmas.Bool.Decides.{nat_tests}
 use Rattle.std.proofs.Common.{arith}
 use Rattle.store_api.specs.Tree.{Tree, Nil, Node, depth}

@@ -158,6 +158,7 @@ fn merged<S: Store>(
 }
 
 /// Whether a map has exactly the keys of an ordered map, in its order, and payloads with its heads.
+#[tactic(auto, using(store_api::specs::Bag::one_self, crate::specs::Pairs::pair_facts))]
 fn agrees<S: Store>(
     alloc: Global,
     s: &mut S,
@@ -194,11 +195,7 @@ fn of_two<S: Store>(s: &mut S, first: u32, second: u32) -> Got<Map<S::Hold>>
 }
 
 /// The same map in both orders.
-fn both_orders<S: Store>(
-    s: &mut S,
-    first: u32,
-    second: u32,
-) -> Got<(Map<S::Hold>, Map<S::Hold>)>
+fn both_orders<S: Store>(s: &mut S, first: u32, second: u32) -> Got<(Map<S::Hold>, Map<S::Hold>)>
     ensures ok { IfOk result (λ r. Trades (S.bag s.old) (S.bag s.new) none (both (map_out S.name r.0.root) (map_out S.name r.1.root))) }
     ensures map { IfOk result (λ r. MapIn S.name (S.bag s.new) r.0.root) }
     ensures map_second { IfOk result (λ r. MapIn S.name (S.bag s.new) r.1.root) }
@@ -291,11 +288,7 @@ fn two_maps<S: Store>(
 }
 
 /// The first map joined with the second, or widened by it.
-fn want_merged(
-    want: &mut BTreeMap<u32, u64>,
-    other: &BTreeMap<u32, u64>,
-    widens: bool,
-) -> Got<()> {
+fn want_merged(want: &mut BTreeMap<u32, u64>, other: &BTreeMap<u32, u64>, widens: bool) -> Got<()> {
     for (key, head) in other.iter() {
         let mut made = *head;
         if let Some(old) = want.get(key)
@@ -345,12 +338,7 @@ fn want_included(a: &BTreeMap<u32, u64>, b: &BTreeMap<u32, u64>) -> bool {
 }
 
 /// Whether one map is included in the other.
-fn contained<S: Store>(
-    alloc: Global,
-    s: &mut S,
-    a: &Map<S::Hold>,
-    b: &Map<S::Hold>,
-) -> Got<bool>
+fn contained<S: Store>(alloc: Global, s: &mut S, a: &Map<S::Hold>, b: &Map<S::Hold>) -> Got<bool>
     requires first { (x : ℕ) → map_out S.name a.now.root x ≤ (S.bag s.old).count x }
     requires second { (x : ℕ) → map_out S.name b.now.root x ≤ (S.bag s.old).count x }
     requires map { MapIn S.name (S.bag s.old) a.now.root }

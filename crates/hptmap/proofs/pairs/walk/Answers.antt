@@ -15,5 +15,5 @@ pub returns-in-Some-clause-map : goal.returns-in-Some-clause-map
 returns-in-Some-clause-map g c =
     subst (λ o. IfOk c.walk_in.result (λ v. (x : ℕ) → lookup (λ (k : ℕ). eqb k x) (pair_trees g.S.Store.name (g.S.Store.bag c.walk_in.new.s) v.items) ≡ map_of (map_tree g.S.Store.name (g.S.Store.bag c.args.s.now) o) x)) (sym c.in-Some.is)
     (
-      map_ok c.walk_in.result (λ v. v.items) g.S.Store.name (g.S.Store.bag c.walk_in.new.s) ((g.S.Store.bag c.args.s.now).tree (g.S.Store.name c.in-Some.root)) _ (ap (pair_trees g.S.Store.name (g.S.Store.bag c.args.s.now)) c.new-pairs.ensures.items ∙ no_pairs g.S.Store.name (g.S.Store.bag c.args.s.now)) c.walk_in.ensures.pairs
+    map_ok c.walk_in.result (λ v. v.items) g.S.Store.name (g.S.Store.bag c.walk_in.new.s) ((g.S.Store.bag c.args.s.now).tree (g.S.Store.name c.in-Some.root)) _ (ap (pair_trees g.S.Store.name (g.S.Store.bag c.args.s.now)) c.new-pairs.ensures.items ∙ no_pairs g.S.Store.name (g.S.Store.bag c.args.s.now)) c.walk_in.ensures.pairs
     )
