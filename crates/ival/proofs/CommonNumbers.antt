@@ -54,7 +54,7 @@ gap-inside x y j h = by_lt_z x (y +ℤ pos 1)
 
 -- ---- membership in a range
 
-Decides-int_le : (x y : ℤ) → Decides (int_le x y) (x ≤ℤ y)
+pub Decides-int_le : (x y : ℤ) → Decides (int_le x y) (x ≤ℤ y)
 Decides-int_le x y = (λ e. omega (arith, ints), λ h. grind (arith, ints))
 
 -- a member is between the ends and in the class of the first
@@ -63,7 +63,7 @@ pub record IsInside (lo hi : ℤ) (m : ℕ) (z : ℤ) : Type 0 where
   pub high : z ≤ℤ hi
   pub class : residue z m ≡ residue lo m
 
-Decides-has : (lo hi r m z : ℤ) → Decides (has (Range lo hi r m) z) (((lo ≤ℤ z) × (z ≤ℤ hi)) × (residue z (unsigned_abs m) ≡ unsigned_abs r))
+pub Decides-has : (lo hi r m z : ℤ) → Decides (has (Range lo hi r m) z) (((lo ≤ℤ z) × (z ≤ℤ hi)) × (residue z (unsigned_abs m) ≡ unsigned_abs r))
 Decides-has lo hi r m z =
     Decides-and (int_le lo z && int_le z hi) (nat_eq (residue z (unsigned_abs m)) (unsigned_abs r))
     (Decides-and (int_le lo z) (int_le z hi) (Decides-int_le lo z) (Decides-int_le z hi)) (Decides-eqb (residue z (unsigned_abs m)) (unsigned_abs r))

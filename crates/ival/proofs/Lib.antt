@@ -11,3 +11,8 @@ pub mod CongruenceLemmas
 pub mod ComparisonLemmas
 pub mod MeetLemmas
 pub mod CommonNumbers
+pub mod NormMembers
+pub mod Keeping
+pub mod HullMembers
+pub mod JoinMembers
+pub mod Membership

@@ -15,6 +15,7 @@ mod forms;
 mod hull;
 mod inclusion;
 mod join;
+mod laws;
 mod meet;
 mod members;
 mod numbers;
@@ -27,6 +28,7 @@ mod spans;
 mod sums;
 
 pub use forms::{Cmp, Ival};
+pub use laws::{included_is_sound, join_keeps};
 pub use members::Members;
 
 #[cfg(test)]
