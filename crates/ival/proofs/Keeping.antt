@@ -5,7 +5,7 @@ use Rattle.std.specs.List.{All, Contains, fold}
 use Rattle.std.specs.Int.{IsGcd, ◌∣◌}
 use Rattle.std.proofs.lemmas.Int.{ints, by_lt_z}
 use Rattle.std.proofs.lemmas.Bool.{cases_lt}
-use Rattle.std.proofs.lemmas.List.Elements.{All-head, All-tail, All-cons, All-nil, All-weaker, All-contains}
+use Rattle.std.proofs.lemmas.List.Elements.{All-head, All-tail, All-cons, All-nil, All-contains, Contains-get_or}
 use Rattle.std.proofs.lemmas.Nat.Gcd.{IsGcd-from_zero, IsGcd-from_mod, mod-eq-zero_of_dvd}
 use Rattle.ival.specs.Numbers.{residue, distance, gcd, gcd_in}
 use Rattle.ival.specs.Lists.{spread}
@@ -129,3 +129,16 @@ member-class (Range lo hi r m) z h k =
     let n = unsigned_abs m in
     let e : residue z n ≡ residue lo n = ap unsigned_abs (k.2 ∙ sym h.first) in
     congruent_from_residue z lo n (omega (arith, ints, h.step)) e
+
+-- the ends are members
+pub greatest-member : (a : Ival) → HasEnds a → Has a (greatest a)
+greatest-member Empty h = absurd h
+greatest-member Every h = absurd h
+greatest-member (Set xs) h = Contains-get_or xs (length xs - 1) (pos 0) (omega (arith, h.some))
+greatest-member (Range lo hi r m) h = (omega (arith, ints, h.step, h.many), omega (arith, ints), h.last)
+
+pub least-member : (a : Ival) → HasEnds a → Has a (least a)
+least-member Empty h = absurd h
+least-member Every h = absurd h
+least-member (Set xs) h = Contains-get_or xs 0 (pos 0) h.some
+least-member (Range lo hi r m) h = (omega (arith, ints), omega (arith, ints, h.step, h.many), h.first)

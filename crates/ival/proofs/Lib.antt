@@ -16,3 +16,6 @@ pub mod Keeping
 pub mod HullMembers
 pub mod JoinMembers
 pub mod Membership
+pub mod WidenMembers
+pub mod PointwiseMembers
+pub mod SumMembers

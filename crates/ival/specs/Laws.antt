@@ -1,11 +1,26 @@
 -- What the operations keep of the members of their arguments.
-use Rattle.std.specs.Prelude.{◌≡◌, ◌≤◌, ℕ, List, Option, Some, Bool, true, false, ℤ, pos, ◌⊎◌}
-use Rattle.ival.specs.Forms.{Has, IsWellFormed, IsOperand}
+use Rattle.std.specs.Prelude.{◌≡◌, ◌≤◌, ℕ, List, Option, Some, Bool, true, false, ℤ, pos, negsuc, neg_ℤ, ◌-ℤ◌, ◌-◌, ◌^◌, ◌⊎◌}
+use Rattle.ival.specs.Forms.{Has, IsWellFormed, IsOperand, Within}
 use Rattle.ival.specs.declared.forms.Ival.{Ival}
 
--- each result that is defined on members is a member
+-- ---- operations on numbers beside those of the other files; None where C leaves the result undefined
+
+-- C11 6.5.3.3; in two's complement ~x is -1 - x
+abbrev pub negation_of : ℤ → Option ℤ
+negation_of x = Some (neg_ℤ x)
+
+abbrev pub complement_of : ℤ → Option ℤ
+complement_of x = Some (negsuc 0 -ℤ x)
+
+-- ---- each result that is defined on members is a member
+
+abbrev pub KeepsOne : (ℤ → Option ℤ) → (Ival → Ival) → Type 0
+KeepsOne f op = (a : Ival) → IsOperand a → (x z : ℤ) → Has a x → f x ≡ Some z → Has (op a) z
+
 abbrev pub Keeps : (ℤ → ℤ → Option ℤ) → (Ival → Ival → Ival) → Type 0
 Keeps f op = (a b : Ival) → IsOperand a → IsOperand b → (x y z : ℤ) → Has a x → Has b y → f x y ≡ Some z → Has (op a b) z
+
+-- ---- other laws
 
 -- each member of one of both sides is a member
 abbrev pub KeepsBoth : (Ival → Ival → Ival) → Type 0
@@ -14,3 +29,10 @@ KeepsBoth op = (a b : Ival) → IsWellFormed a → IsWellFormed b → (x : ℤ) 
 -- yes means that each member of the first is one of the second
 abbrev pub IsSound : (Ival → Ival → Bool) → Type 0
 IsSound op = (a b : Ival) → IsWellFormed a → IsWellFormed b → op a b ≡ true → (x : ℤ) → Has a x → Has b x
+
+-- each member of both sides, which lie in the signed or the unsigned type of the width, is one of what is widened
+abbrev pub KeepsWidened : (Ival → Ival → List ℤ → ℕ → Ival) → Type 0
+KeepsWidened op =
+    (old newer : Ival) (thresholds : List ℤ) (width : ℕ) → IsWellFormed old → IsWellFormed newer
+    → Within (neg_ℤ (pos (2 ^ (width - 1)))) (pos (2 ^ width) -ℤ pos 1) old → Within (neg_ℤ (pos (2 ^ (width - 1)))) (pos (2 ^ width) -ℤ pos 1) newer
+    → (x : ℤ) → Has old x ⊎ Has newer x → Has (op old newer thresholds width) x

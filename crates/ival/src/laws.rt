@@ -1,7 +1,8 @@
 //! Laws of the definitions: each function's contract is one.
 
-ghost use Rattle.ival.specs.Laws.{KeepsBoth, IsSound};
-ghost use Rattle.ival.specs.SetOperations.{join_of, included_of};
+ghost use Rattle.ival.specs.Arithmetic.{sum_of, difference_of, add_of, sub_of, neg_of, not_of};
+ghost use Rattle.ival.specs.Laws.{Keeps, KeepsOne, KeepsBoth, KeepsWidened, IsSound, negation_of, complement_of};
+ghost use Rattle.ival.specs.SetOperations.{join_of, included_of, widen_of};
 
 /// A join has the members of both sides.
 pub fn join_keeps()
@@ -11,4 +12,29 @@ pub fn join_keeps()
 /// What is included has no other members.
 pub fn included_is_sound()
     ensures { IsSound included_of }
+{}
+
+/// A widening has the members of both sides.
+pub fn widen_keeps()
+    ensures { KeepsWidened widen_of }
+{}
+
+/// Sums of members are members of the sum.
+pub fn add_keeps()
+    ensures { Keeps sum_of add_of }
+{}
+
+/// Differences of members are members of the difference.
+pub fn sub_keeps()
+    ensures { Keeps difference_of sub_of }
+{}
+
+/// Negations of members are members of the negation.
+pub fn neg_keeps()
+    ensures { KeepsOne negation_of neg_of }
+{}
+
+/// Complements of members are members of the complement.
+pub fn not_keeps()
+    ensures { KeepsOne complement_of not_of }
 {}
