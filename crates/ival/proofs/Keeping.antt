@@ -27,6 +27,9 @@ pub record Divides (d n : ℕ) : Type 0 where
 pub divides_refl : (d : ℕ) → Divides d d
 divides_refl d = record { times = 1; equal = omega arith }
 
+pub one-divides : (n : ℕ) → Divides 1 n
+one-divides n = record { times = n; equal = omega arith }
+
 pub divides_trans : (a b c : ℕ) → Divides a b → Divides b c → Divides a c
 divides_trans a b c h k = record { times = k.times * h.times; equal = k.equal ∙ ap (λ n. k.times * n) h.equal ∙ sym (mul_assoc k.times h.times a) }
 
@@ -50,6 +53,10 @@ gcd-left a b = divisor (gcd a b) a (gcd-is a b).0
 
 pub gcd-right : (a b : ℕ) → Divides (gcd a b) b
 gcd-right a b = divisor (gcd a b) b (gcd-is a b).1
+
+pub abs-is : (z : ℤ) → pos 0 ≤ℤ z → pos (unsigned_abs z) ≡ z
+abs-is (pos a) h = refl
+abs-is (negsuc a) h = absurd (omega (arith, ints, h))
 
 -- ---- classes
 

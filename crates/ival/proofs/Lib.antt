@@ -19,3 +19,4 @@ pub mod Membership
 pub mod WidenMembers
 pub mod PointwiseMembers
 pub mod SumMembers
+pub mod CastMembers

@@ -1,5 +1,9 @@
 -- What the operations keep of the members of their arguments.
-use Rattle.std.specs.Prelude.{◌≡◌, ◌≤◌, ℕ, List, Option, Some, Bool, true, false, ℤ, pos, negsuc, neg_ℤ, ◌-ℤ◌, ◌-◌, ◌^◌, ◌⊎◌}
+use Rattle.std.specs.Prelude.{◌≡◌, ◌≤◌, ◌≤ℤ◌, ℕ, List, Option, Some, Bool, true, false, ℤ, pos, negsuc, neg_ℤ, ◌-ℤ◌, ◌-◌, ◌^◌, ◌⊎◌}
+use Rattle.ival.specs.Numbers.{residue}
+use Rattle.ival.specs.Casts.{type_least, type_greatest}
+use Rattle.ival.specs.Comparisons.{compares}
+use Rattle.ival.specs.declared.forms.Cmp.{Cmp}
 use Rattle.ival.specs.Forms.{Has, IsWellFormed, IsOperand, Within}
 use Rattle.ival.specs.declared.forms.Ival.{Ival}
 
@@ -12,6 +16,12 @@ negation_of x = Some (neg_ℤ x)
 abbrev pub complement_of : ℤ → Option ℤ
 complement_of x = Some (negsuc 0 -ℤ x)
 
+-- z is x in an integer type of so many bits: the number of the type that is x modulo 2^width (C11 6.3.1.3; for a signed type as GCC does it)
+pub record IsConverted (width : ℕ) (signed : Bool) (x z : ℤ) : Type 0 where
+  pub above : type_least width signed ≤ℤ z
+  pub below : z ≤ℤ type_greatest width signed
+  pub class : residue z (2 ^ width) ≡ residue x (2 ^ width)
+
 -- ---- each result that is defined on members is a member
 
 abbrev pub KeepsOne : (ℤ → Option ℤ) → (Ival → Ival) → Type 0
@@ -20,7 +30,20 @@ KeepsOne f op = (a : Ival) → IsOperand a → (x z : ℤ) → Has a x → f x �
 abbrev pub Keeps : (ℤ → ℤ → Option ℤ) → (Ival → Ival → Ival) → Type 0
 Keeps f op = (a b : Ival) → IsOperand a → IsOperand b → (x y z : ℤ) → Has a x → Has b y → f x y ≡ Some z → Has (op a b) z
 
+abbrev pub KeepsConverted : (Ival → ℕ → Bool → Ival) → Type 0
+KeepsConverted op =
+    (a : Ival) (width : ℕ) (signed : Bool) → IsWellFormed a → 1 ≤ width → (x z : ℤ) → Has a x → IsConverted width signed x z → Has (op a width signed) z
+
 -- ---- other laws
+
+-- each member of both sides is a member
+abbrev pub KeepsCommon : (Ival → Ival → Ival) → Type 0
+KeepsCommon op = (a b : Ival) → IsWellFormed a → IsWellFormed b → (x : ℤ) → Has a x → Has b x → Has (op a b) x
+
+-- each member of the first for which the comparison holds with a member of the second
+abbrev pub KeepsAllowed : (Cmp → Ival → Ival → Ival) → Type 0
+KeepsAllowed op =
+    (c : Cmp) (a b : Ival) → IsOperand a → IsOperand b → (x y : ℤ) → Has a x → Has b y → compares c x y ≡ true → Has (op c a b) x
 
 -- each member of one of both sides is a member
 abbrev pub KeepsBoth : (Ival → Ival → Ival) → Type 0

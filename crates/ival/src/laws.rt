@@ -1,7 +1,8 @@
 //! Laws of the definitions: each function's contract is one.
 
 ghost use Rattle.ival.specs.Arithmetic.{sum_of, difference_of, add_of, sub_of, neg_of, not_of};
-ghost use Rattle.ival.specs.Laws.{Keeps, KeepsOne, KeepsBoth, KeepsWidened, IsSound, negation_of, complement_of};
+ghost use Rattle.ival.specs.Casts.{cast_of};
+ghost use Rattle.ival.specs.Laws.{Keeps, KeepsOne, KeepsConverted, KeepsBoth, KeepsWidened, IsSound, negation_of, complement_of};
 ghost use Rattle.ival.specs.SetOperations.{join_of, included_of, widen_of};
 
 /// A join has the members of both sides.
@@ -37,4 +38,9 @@ pub fn neg_keeps()
 /// Complements of members are members of the complement.
 pub fn not_keeps()
     ensures { KeepsOne complement_of not_of }
+{}
+
+/// Members that are converted to an integer type are members of the cast.
+pub fn cast_keeps()
+    ensures { KeepsConverted cast_of }
 {}
