@@ -6,7 +6,7 @@ use Rattle.std.specs.Int.{IsGcd, ◌∣◌}
 use Rattle.std.proofs.lemmas.Int.{ints, by_lt_z}
 use Rattle.std.proofs.lemmas.Bool.{cases_lt}
 use Rattle.std.proofs.lemmas.List.Elements.{All-head, All-tail, All-cons, All-nil, All-contains, Contains-get_or}
-use Rattle.std.proofs.lemmas.Nat.Gcd.{IsGcd-from_zero, IsGcd-from_mod, mod-eq-zero_of_dvd}
+use Rattle.std.proofs.lemmas.Nat.Gcd.{IsGcd-from_zero, IsGcd-from_mod, mod-eq-zero_of_dvd, dvd_refl}
 use Rattle.ival.specs.Numbers.{residue, distance, gcd, gcd_in}
 use Rattle.ival.specs.Lists.{spread}
 use Rattle.ival.specs.Forms.{HasEnds, Has, norm, least, greatest, step}
@@ -17,7 +17,7 @@ use Rattle.ival.proofs.NormMembers.{norm-has}
 use Rattle.ival.specs.declared.forms.Ival.{Ival}
 use Rattle.ival.specs.declared.forms.Ival.TheVariants.{Empty, Set, Range, All as Every}
 use Rattle.std.proofs.lemmas.Nat.{mod_below, div-add-mod'}
-use Rattle.std.proofs.Math.Nat.{mul_assoc}
+use Rattle.std.proofs.Math.Nat.{mul_assoc, dvd-mul_left_of_dvd}
 
 -- n is a multiple of d
 pub record Divides (d n : ℕ) : Type 0 where
@@ -33,8 +33,11 @@ one-divides n = record { times = n; equal = omega arith }
 pub divides_trans : (a b c : ℕ) → Divides a b → Divides b c → Divides a c
 divides_trans a b c h k = record { times = k.times * h.times; equal = k.equal ∙ ap (λ n. k.times * n) h.equal ∙ sym (mul_assoc k.times h.times a) }
 
-divisor : (d n : ℕ) → d ∣ n → Divides d n
+pub divisor : (d n : ℕ) → d ∣ n → Divides d n
 divisor d n h = record { times = n / d; equal = omega (arith, div-add-mod' n d, mod-eq-zero_of_dvd d {n = n} h) }
+
+pub multiple : (d n k : ℕ) → n ≡ k * d → d ∣ n
+multiple d n k e = subst (λ (w : ℕ). d ∣ w) (sym e) (dvd-mul_left_of_dvd d (dvd_refl d) k)
 
 pub divides_from_rem : (d n : ℕ) → n % d ≡ 0 → Divides d n
 divides_from_rem d n e = record { times = n / d; equal = omega (arith, div-add-mod' n d) }

@@ -20,3 +20,5 @@ pub mod WidenMembers
 pub mod PointwiseMembers
 pub mod SumMembers
 pub mod CastMembers
+pub mod CommonMultiples
+pub mod MeetMembers

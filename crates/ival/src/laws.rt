@@ -2,7 +2,8 @@
 
 ghost use Rattle.ival.specs.Arithmetic.{sum_of, difference_of, add_of, sub_of, neg_of, not_of};
 ghost use Rattle.ival.specs.Casts.{cast_of};
-ghost use Rattle.ival.specs.Laws.{Keeps, KeepsOne, KeepsConverted, KeepsBoth, KeepsWidened, IsSound, negation_of, complement_of};
+ghost use Rattle.ival.specs.Laws.{Keeps, KeepsOne, KeepsConverted, KeepsBoth, KeepsCommon, KeepsWidened, IsSound, negation_of, complement_of};
+ghost use Rattle.ival.specs.Meet.{meet_of};
 ghost use Rattle.ival.specs.SetOperations.{join_of, included_of, widen_of};
 
 /// A join has the members of both sides.
@@ -43,4 +44,9 @@ pub fn not_keeps()
 /// Members that are converted to an integer type are members of the cast.
 pub fn cast_keeps()
     ensures { KeepsConverted cast_of }
+{}
+
+/// A meet has the members of both sides.
+pub fn meet_keeps()
+    ensures { KeepsCommon meet_of }
 {}
