@@ -9,8 +9,8 @@ use Rattle.std.proofs.lemmas.List.Elements.{All-head, All-tail, All-cons, All-ni
 use Rattle.std.proofs.lemmas.Nat.Gcd.{IsGcd-from_zero, IsGcd-from_mod, mod-eq-zero_of_dvd, dvd_refl}
 use Rattle.ival.specs.Numbers.{residue, distance, gcd, gcd_in}
 use Rattle.ival.specs.Lists.{spread}
-use Rattle.ival.specs.Forms.{HasEnds, Has, norm, least, greatest, step}
-use Rattle.ival.proofs.Classes.{IsCongruent, IsCongruent_refl, IsCongruent_sym, IsCongruent_trans, residue-same, congruent_from_residue}
+use Rattle.ival.specs.Forms.{IsProgression, HasEnds, Has, norm, least, greatest, step}
+use Rattle.ival.proofs.Classes.{IsCongruent, IsCongruent_refl, IsCongruent_sym, IsCongruent_trans, residue-congruent, residue-same, congruent_from_residue}
 use Rattle.ival.proofs.WellFormed.{distance-is}
 use Rattle.ival.proofs.ProductLemmas.{up_to_last}
 use Rattle.ival.proofs.NormMembers.{norm-has}
@@ -152,3 +152,7 @@ least-member Empty h = absurd h
 least-member Every h = absurd h
 least-member (Set xs) h = Contains-get_or xs 0 (pos 0) h.some
 least-member (Range lo hi r m) h = (omega (arith, ints), omega (arith, ints, h.step, h.many), h.first)
+
+-- a member of a range is in the class of its rest
+pub range-class : (lo hi r m x : ℤ) → IsProgression lo hi r m → Has (Range lo hi r m) x → IsCongruent (unsigned_abs m) x r
+range-class lo hi r m x h p = subst (λ w. IsCongruent (unsigned_abs m) x w) p.2 (residue-congruent x (unsigned_abs m) (omega (arith, ints, h.step)))

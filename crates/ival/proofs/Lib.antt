@@ -22,3 +22,4 @@ pub mod SumMembers
 pub mod CastMembers
 pub mod CommonMultiples
 pub mod MeetMembers
+pub mod ComparisonMembers

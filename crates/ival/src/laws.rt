@@ -2,8 +2,11 @@
 
 ghost use Rattle.ival.specs.Arithmetic.{sum_of, difference_of, add_of, sub_of, neg_of, not_of};
 ghost use Rattle.ival.specs.Casts.{cast_of};
-ghost use Rattle.ival.specs.Laws.{Keeps, KeepsOne, KeepsConverted, KeepsBoth, KeepsCommon, KeepsWidened, IsSound, negation_of, complement_of};
+ghost use Rattle.ival.specs.Comparisons.{answer_of, truth_of, reduce_of};
+ghost use Rattle.ival.specs.Laws.{Keeps, KeepsOne, KeepsConverted, KeepsBoth, KeepsCommon, KeepsWidened, KeepsAllowed, IsSound, negation_of, complement_of};
 ghost use Rattle.ival.specs.Meet.{meet_of};
+
+use crate::forms::Cmp;
 ghost use Rattle.ival.specs.SetOperations.{join_of, included_of, widen_of};
 
 /// A join has the members of both sides.
@@ -49,4 +52,14 @@ pub fn cast_keeps()
 /// A meet has the members of both sides.
 pub fn meet_keeps()
     ensures { KeepsCommon meet_of }
+{}
+
+/// Each answer that two members give is one of the answers.
+pub fn truth_keeps()
+    ensures { (op : Cmp) → Keeps (answer_of op) (truth_of op) }
+{}
+
+/// A reduction keeps each member for which the comparison holds with a member of the other side.
+pub fn reduce_cmp_keeps()
+    ensures { KeepsAllowed reduce_of }
 {}
