@@ -2,27 +2,17 @@
 use Rattle.std.proofs.Common.{◌≡◌, ℕ, zero, suc, ◌+◌, ◌-◌, ◌*◌, ◌/◌, ◌%◌, ◌<◌, ◌≤◌, ℤ, pos, ◌+ℤ◌, ◌-ℤ◌, ◌<ℤ◌, ap, sym, subst, ◌∙◌, arith, ⊎_elim}
 use Rattle.std.specs.Int.{◌∣◌}
 use Rattle.std.proofs.lemmas.Int.{ints, by_lt_z}
-use Rattle.std.proofs.lemmas.Nat.{mod_below, div-add-mod', div-mul-add, mul-le}
-use Rattle.std.proofs.lemmas.Bool.{cases_lt}
-use Rattle.std.proofs.Math.Nat.{le_refl, mul_assoc, mul_comm, mul-add, dvd-mul_left_of_dvd, dvd-add_iff_right}
+use Rattle.std.proofs.lemmas.Nat.{mod_below, div-add-mod', div-mul-add}
+use Rattle.std.proofs.Math.Nat.{mul_assoc, mul_comm, mul-add, dvd-mul_left_of_dvd, dvd-add_iff_right}
 use Rattle.ival.specs.Numbers.{distance, gcd, gcd_in}
 use Rattle.ival.specs.Meet.{lcm}
 use Rattle.ival.proofs.Classes.{IsCongruent}
 use Rattle.ival.proofs.CongruenceLemmas.{factor-le, gcd-pos}
-use Rattle.ival.proofs.Keeping.{Divides, divisor, multiple, gcd-right, congruent-apart}
+use Rattle.ival.proofs.Keeping.{Divides, divisor, multiple, multiple-apart, gcd-right, congruent-apart}
 use Rattle.ival.proofs.WellFormed.{distance-is}
 
 above-is : (x y : ℤ) → x <ℤ y → pos (distance x y) ≡ y -ℤ x
 above-is x y h = grind (arith, ints)
-
-multiple-apart : (a b m d : ℕ) → 0 < m → a * m ≡ b * m + d → d ≡ (a - b) * m
-multiple-apart a b m d h e =
-    ⊎_elim
-    (λ lt. let none : a * m ≤ b * m = mul-le a m b m (omega arith) (le_refl m) in
-    let z : a - b ≡ 0 = omega arith in
-    omega (arith, e, none, ap (λ w. w * m) z))
-    (λ ge. let parts : a * m ≡ (b + (a - b)) * m = ap (λ w. w * m) (omega (arith, ge)) in omega (arith, e, parts))
-    (cases_lt a b)
 
 -- what divides both multiples by i divides that of the greatest common divisor
 scaled_in : (t i d a b : ℕ) → b ≤ t → d ∣ i * a → d ∣ i * b → d ∣ i * gcd_in t a b
@@ -50,8 +40,8 @@ quotient-is n g k h e = ap (λ w. w / g) (e ∙ omega arith) ∙ div-mul-add k g
 apart-divides : (m : ℕ) (x y : ℤ) → 0 < m → IsCongruent m x y → Divides m (distance x y)
 apart-divides m x y h k =
     by_lt_z x y
-    (λ lt. record { times = k.more - k.less; equal = let e = above-is x y lt in multiple-apart k.more k.less m (distance x y) h (omega (arith, ints, k.equal, e)) })
-    (λ ge. record { times = k.less - k.more; equal = let e = distance-is x y ge in multiple-apart k.less k.more m (distance x y) h (omega (arith, ints, k.equal, e)) })
+    (λ lt. let e = above-is x y lt in multiple-apart k.more k.less m (distance x y) h (omega (arith, ints, k.equal, e)))
+    (λ ge. let e = distance-is x y ge in multiple-apart k.less k.more m (distance x y) h (omega (arith, ints, k.equal, e)))
 
 -- a number that m and n divide
 pub lcm-divides : (m n d : ℕ) → 0 < m → Divides m d → Divides n d → Divides (lcm m n) d

@@ -29,7 +29,7 @@ use Rattle.ival.specs.declared.forms.Cmp.TheVariants.{Lt, Le, Gt, Ge, Eq, Ne}
 use Rattle.ival.specs.declared.forms.Ival.{Ival}
 use Rattle.ival.specs.declared.forms.Ival.TheVariants.{Empty, Set, Range, All as Every}
 
-Decides-int_lt : (x y : ℤ) → Decides (int_lt x y) (x <ℤ y)
+pub Decides-int_lt : (x y : ℤ) → Decides (int_lt x y) (x <ℤ y)
 Decides-int_lt x y = (λ e. grind (arith, ints), λ h. grind (arith, ints))
 
 int_le-no : (x y : ℤ) → y <ℤ x → int_le x y ≡ false
@@ -55,7 +55,7 @@ decided-has false true false z e h k = contains-here (pos 0) z [] (cc)
 decided-has false false true z e h k = contains-later (pos 0) z (pos 1 ∷ []) (contains-here (pos 1) z [] (cc))
 decided-has false false false z e h k = contains-here (pos 0) z (pos 1 ∷ []) (cc)
 
-formed : (a : Ival) → IsOperand a → IsWellFormed a
+pub formed : (a : Ival) → IsOperand a → IsWellFormed a
 formed Empty h = tt
 formed (Set xs) h = h.0
 formed (Range lo hi r m) h = h.0

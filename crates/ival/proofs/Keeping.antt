@@ -16,8 +16,8 @@ use Rattle.ival.proofs.ProductLemmas.{up_to_last}
 use Rattle.ival.proofs.NormMembers.{norm-has}
 use Rattle.ival.specs.declared.forms.Ival.{Ival}
 use Rattle.ival.specs.declared.forms.Ival.TheVariants.{Empty, Set, Range, All as Every}
-use Rattle.std.proofs.lemmas.Nat.{mod_below, div-add-mod'}
-use Rattle.std.proofs.Math.Nat.{mul_assoc, dvd-mul_left_of_dvd}
+use Rattle.std.proofs.lemmas.Nat.{mod_below, div-add-mod', mul-le}
+use Rattle.std.proofs.Math.Nat.{le_refl, mul_assoc, dvd-mul_left_of_dvd}
 
 -- n is a multiple of d
 pub record Divides (d n : ℕ) : Type 0 where
@@ -90,6 +90,33 @@ congruent-apart d x y h =
     (λ lt. record { more = h.times; less = 0; equal = let e = h.equal in grind (arith, ints) })
     (λ ge. record { more = 0; less = h.times; equal = let e = h.equal in omega (arith, ints, distance-is x y ge) })
 
+nothing : (y : ℤ) → distance y y ≡ 0
+nothing y = let e : y -ℤ y ≡ pos 0 = omega (arith, ints) in ap unsigned_abs e
+
+pub multiple-apart : (a b m d : ℕ) → 0 < m → a * m ≡ b * m + d → Divides m d
+multiple-apart a b m d h e =
+    ⊎_elim
+    (λ lt. let none : a * m ≤ b * m = mul-le a m b m (omega arith) (le_refl m) in record { times = 0; equal = omega (arith, e, none) })
+    (λ ge. let parts : a * m ≡ (b + (a - b)) * m = ap (λ w. w * m) (omega (arith, ge)) in record { times = a - b; equal = omega (arith, e, parts) })
+    (cases_lt a b)
+
+nothing-apart : (m : ℕ) (x y : ℤ) → m ≡ 0 → IsCongruent m x y → Divides m (distance x y)
+nothing-apart m x y e k =
+    let same = congruent-zero x y (subst (λ (n : ℕ). IsCongruent n x y) e k) in
+    record { times = 0; equal = ap (λ w. distance w y) same ∙ nothing y ∙ omega arith }
+
+-- a multiple of t where t·n is one of g
+pub divides-scaled : (g t v n w : ℕ) → Divides t v → Divides g (t * n) → w ≡ v * n → Divides g w
+divides-scaled g t v n w h k e = record {
+  times = h.times * k.times;
+  equal = e ∙ ap (λ a. a * n) h.equal ∙ mul_assoc h.times t n ∙ ap (λ a. h.times * a) k.equal ∙ sym (mul_assoc h.times k.times g);
+}
+
+-- a multiple more
+pub congruent-near : (g : ℕ) (z w : ℤ) → Divides g (unsigned_abs w) → IsCongruent g (z +ℤ w) z
+congruent-near g z (pos n) h = record { more = 0; less = h.times; equal = let e = h.equal in omega (arith, ints) }
+congruent-near g z (negsuc n) h = record { more = h.times; less = 0; equal = let e = h.equal in omega (arith, ints) }
+
 -- ---- norm
 
 pub norm-keeps : (lo hi r z : ℤ) (m : ℕ) → lo ≤ℤ z → z ≤ℤ hi → IsCongruent m z r → Has (norm lo hi r m) z
@@ -156,3 +183,11 @@ least-member (Range lo hi r m) h = (omega (arith, ints), omega (arith, ints, h.s
 -- a member of a range is in the class of its rest
 pub range-class : (lo hi r m x : ℤ) → IsProgression lo hi r m → Has (Range lo hi r m) x → IsCongruent (unsigned_abs m) x r
 range-class lo hi r m x h p = subst (λ w. IsCongruent (unsigned_abs m) x w) p.2 (residue-congruent x (unsigned_abs m) (omega (arith, ints, h.step)))
+
+-- a member is some steps above the least
+pub above-least : (a : Ival) (x : ℤ) → HasEnds a → Has a x → (x ≡ least a +ℤ pos (distance x (least a))) × Divides (step a) (distance x (least a))
+above-least a x h p =
+    let b = member-between a x h p in
+    let d = distance-is x (least a) b.0 in
+    let k = member-class a x h p in
+    (omega (arith, ints, d), ⊎_elim (λ some. multiple-apart k.less k.more (step a) (distance x (least a)) some (omega (arith, ints, k.equal, d))) (λ none. nothing-apart (step a) x (least a) (omega (arith, none)) k) (cases_lt 0 (step a)))

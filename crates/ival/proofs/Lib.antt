@@ -23,3 +23,8 @@ pub mod CastMembers
 pub mod CommonMultiples
 pub mod MeetMembers
 pub mod ComparisonMembers
+pub mod Corner
+pub mod ProductMembers
+pub mod CornerMembers
+pub mod ShiftMembers
+pub mod QuotientMembers

@@ -24,7 +24,7 @@ ends-bounded (Set xs) h =
     (All-get_or IsBounded xs 0 (pos 0) h.some h.bounded, All-get_or IsBounded xs (length xs - 1) (pos 0) (omega (arith, h.some)) h.bounded)
 ends-bounded (Range lo hi r m) h = (h.low, h.high)
 
-ends-within : (low high : ℤ) (a : Ival) → HasEnds a → Within low high a → (low ≤ℤ least a) × (greatest a ≤ℤ high)
+pub ends-within : (low high : ℤ) (a : Ival) → HasEnds a → Within low high a → (low ≤ℤ least a) × (greatest a ≤ℤ high)
 ends-within low high Empty h k = absurd h
 ends-within low high Every h k = absurd h
 ends-within low high (Set xs) h k =

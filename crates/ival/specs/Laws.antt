@@ -1,5 +1,5 @@
 -- What the operations keep of the members of their arguments.
-use Rattle.std.specs.Prelude.{◌≡◌, ◌≤◌, ◌≤ℤ◌, ℕ, List, Option, Some, Bool, true, false, ℤ, pos, negsuc, neg_ℤ, ◌-ℤ◌, ◌-◌, ◌^◌, ◌⊎◌}
+use Rattle.std.specs.Prelude.{◌≡◌, ◌≤◌, ◌≤ℤ◌, ℕ, List, Option, Some, None, Bool, true, ◌&&◌, ◌*ℤ◌, int_le, int_lt, unsigned_abs, if◌then◌else◌, false, ℤ, pos, negsuc, neg_ℤ, ◌-ℤ◌, ◌-◌, ◌^◌, ◌⊎◌}
 use Rattle.ival.specs.Numbers.{residue}
 use Rattle.ival.specs.Casts.{type_least, type_greatest}
 use Rattle.ival.specs.Comparisons.{compares}
@@ -8,6 +8,14 @@ use Rattle.ival.specs.Forms.{Has, IsWellFormed, IsOperand, Within}
 use Rattle.ival.specs.declared.forms.Ival.{Ival}
 
 -- ---- operations on numbers beside those of the other files; None where C leaves the result undefined
+
+-- C11 6.5.5, before any check of its range
+abbrev pub whole_product_of : ℤ → ℤ → Option ℤ
+whole_product_of x y = Some (x *ℤ y)
+
+-- x times 2^y, for a count from 0 to 63 (C11 6.5.7)
+abbrev pub shifted_left_of : ℤ → ℤ → Option ℤ
+shifted_left_of x y = if int_le (pos 0) y && int_lt y (pos 64) then Some (x *ℤ pos (2 ^ unsigned_abs y)) else None
 
 -- C11 6.5.3.3; in two's complement ~x is -1 - x
 abbrev pub negation_of : ℤ → Option ℤ
@@ -29,6 +37,11 @@ KeepsOne f op = (a : Ival) → IsOperand a → (x z : ℤ) → Has a x → f x �
 
 abbrev pub Keeps : (ℤ → ℤ → Option ℤ) → (Ival → Ival → Ival) → Type 0
 Keeps f op = (a b : Ival) → IsOperand a → IsOperand b → (x y z : ℤ) → Has a x → Has b y → f x y ≡ Some z → Has (op a b) z
+
+-- the same where each count is from 0 to 63
+abbrev pub KeepsCounted : (ℤ → ℤ → Option ℤ) → (Ival → Ival → Ival) → Type 0
+KeepsCounted f op =
+    (a b : Ival) → IsOperand a → IsOperand b → Within (pos 0) (pos 63) b → (x y z : ℤ) → Has a x → Has b y → f x y ≡ Some z → Has (op a b) z
 
 abbrev pub KeepsConverted : (Ival → ℕ → Bool → Ival) → Type 0
 KeepsConverted op =

@@ -1,9 +1,10 @@
 //! Laws of the definitions: each function's contract is one.
 
-ghost use Rattle.ival.specs.Arithmetic.{sum_of, difference_of, add_of, sub_of, neg_of, not_of};
+ghost use Rattle.ival.specs.Arithmetic.{sum_of, difference_of, quotient_of, remainder_of, add_of, sub_of, neg_of, not_of, mul_of, div_of, rem_of};
 ghost use Rattle.ival.specs.Casts.{cast_of};
 ghost use Rattle.ival.specs.Comparisons.{answer_of, truth_of, reduce_of};
-ghost use Rattle.ival.specs.Laws.{Keeps, KeepsOne, KeepsConverted, KeepsBoth, KeepsCommon, KeepsWidened, KeepsAllowed, IsSound, negation_of, complement_of};
+ghost use Rattle.ival.specs.BitOperations.{shifted_of, shl_of, shr_of};
+ghost use Rattle.ival.specs.Laws.{Keeps, KeepsOne, KeepsCounted, KeepsConverted, KeepsBoth, KeepsCommon, KeepsWidened, KeepsAllowed, IsSound, negation_of, complement_of, whole_product_of, shifted_left_of};
 ghost use Rattle.ival.specs.Meet.{meet_of};
 
 use crate::forms::Cmp;
@@ -62,4 +63,24 @@ pub fn truth_keeps()
 /// A reduction keeps each member for which the comparison holds with a member of the other side.
 pub fn reduce_cmp_keeps()
     ensures { KeepsAllowed reduce_of }
+{}
+
+/// Products of members are members of the product.
+pub fn mul_keeps()
+    ensures { Keeps whole_product_of mul_of }
+{}
+
+/// Members that are shifted left are members of the left shift.
+pub fn shl_keeps()
+    ensures { Keeps shifted_left_of shl_of }
+{}
+
+/// Members that are shifted right are members of the right shift.
+pub fn shr_keeps()
+    ensures { KeepsCounted shifted_of shr_of }
+{}
+
+/// Quotients of members are members of the quotient.
+pub fn div_keeps()
+    ensures { Keeps quotient_of div_of }
 {}
