@@ -147,7 +147,7 @@ without-keeps (Set xs) c x h p n = set_of-has (filter (is_other c) xs) x (filter
 without-keeps (Range lo hi r m) c x h p n = range-without lo hi r m c x h p n
 without-keeps Every c x h p n = p
 
-only-member : (b : Ival) (y c : ℤ) → Has b y → only_number b ≡ Some c → y ≡ c
+pub only-member : (b : Ival) (y c : ℤ) → Has b y → only_number b ≡ Some c → y ≡ c
 only-member Empty y c q e = absurd q
 only-member (Set []) y c q e = cc
 only-member (Set (w ∷ [])) y c q e = ⊎_elim (λ same. cc) (λ none. absurd (contains-none y none)) (contains-cases w y [] q)

@@ -39,6 +39,9 @@ divisor d n h = record { times = n / d; equal = omega (arith, div-add-mod' n d, 
 pub multiple : (d n k : ℕ) → n ≡ k * d → d ∣ n
 multiple d n k e = subst (λ (w : ℕ). d ∣ w) (sym e) (dvd-mul_left_of_dvd d (dvd_refl d) k)
 
+pub whole_quotient : (d n : ℕ) → n % d ≡ 0 → n ≡ n / d * d
+whole_quotient d n e = omega (arith, div-add-mod' n d)
+
 pub divides_from_rem : (d n : ℕ) → n % d ≡ 0 → Divides d n
 divides_from_rem d n e = record { times = n / d; equal = omega (arith, div-add-mod' n d) }
 

@@ -28,3 +28,4 @@ pub mod ProductMembers
 pub mod CornerMembers
 pub mod ShiftMembers
 pub mod QuotientMembers
+pub mod RemainderMembers

@@ -21,7 +21,7 @@ use Rattle.ival.proofs.Operands.{norm-within, trim-operand}
 use Rattle.ival.proofs.Corner.{IsBetween, IsAround, around, between-up, between-down}
 use Rattle.ival.proofs.CornerMembers.{four-is}
 use Rattle.ival.proofs.CommonNumbers.{Decides-int_le}
-use Rattle.ival.proofs.Keeping.{Divides, divides_from_rem, congruent-apart, one-divides, member-between, norm-keeps, above-least, least-member, greatest-member}
+use Rattle.ival.proofs.Keeping.{Divides, whole_quotient, divides_from_rem, congruent-apart, one-divides, member-between, norm-keeps, above-least, least-member, greatest-member}
 use Rattle.ival.proofs.JoinMembers.{join-keeps}
 use Rattle.ival.proofs.Membership.{by-test}
 use Rattle.ival.proofs.WidenMembers.{ends-within, none-empty}
@@ -150,9 +150,9 @@ rest-class a x y (Some c) h p same =
     let n = unsigned_abs c in
     let d = (Decides-and (nat_lt 0 n && nat_eq (step a % n) 0) (nat_eq (unsigned_abs (least a) % n) 0) (Decides-and (nat_lt 0 n) (nat_eq (step a % n) 0) (Decides-ltb 0 n) (Decides-eqb (step a % n) 0)) (Decides-eqb (unsigned_abs (least a) % n) 0)).0 t in
     let f = above-least a x h p in
-    let s = divides_from_rem n (step a) d.0.1 in
+    let s = whole_quotient n (step a) d.0.1 in
     subst (λ w. IsCongruent (step a / n) (int_div x w) (int_div (least a) c)) (sym is)
-    (class-by_either x (least a) c (step a / n) (step a) (distance x (least a)) d.0.0 (divides_from_rem n (unsigned_abs (least a)) d.1) s.equal f.1 f.0))
+    (class-by_either x (least a) c (step a / n) (step a) (distance x (least a)) d.0.0 (divides_from_rem n (unsigned_abs (least a)) d.1) s f.1 f.0))
 
 -- ---- the quotients by the divisors of one sign
 

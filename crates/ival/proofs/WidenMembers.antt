@@ -102,7 +102,7 @@ upper_stop-above width thresholds x h =
     (λ c. (Decides-int_le x (upper_stop width thresholds x)).0 (All-contains (λ t. p t ≡ true) (filter p thresholds) (upper_stop width thresholds x) all c))
     (fold-int_min_reached (pos (2 ^ width) -ℤ pos 1) (filter p thresholds) (upper_stop width thresholds x) refl)
 
-int_by-test : (P : ℤ → Type 0) (b : Bool) (s t : ℤ) → (b ≡ true → P s) → (b ≡ false → P t) → P (cond b s t)
+pub int_by-test : (P : ℤ → Type 0) (b : Bool) (s t : ℤ) → (b ≡ true → P s) → (b ≡ false → P t) → P (cond b s t)
 int_by-test P true s t h k = h refl
 int_by-test P false s t h k = k refl
 

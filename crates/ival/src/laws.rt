@@ -84,3 +84,8 @@ pub fn shr_keeps()
 pub fn div_keeps()
     ensures { Keeps quotient_of div_of }
 {}
+
+/// Remainders of members are members of the remainder.
+pub fn rem_keeps()
+    ensures { Keeps remainder_of rem_of }
+{}
