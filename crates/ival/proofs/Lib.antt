@@ -29,3 +29,4 @@ pub mod CornerMembers
 pub mod ShiftMembers
 pub mod QuotientMembers
 pub mod RemainderMembers
+pub mod BitMembers

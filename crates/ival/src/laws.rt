@@ -3,7 +3,7 @@
 ghost use Rattle.ival.specs.Arithmetic.{sum_of, difference_of, quotient_of, remainder_of, add_of, sub_of, neg_of, not_of, mul_of, div_of, rem_of};
 ghost use Rattle.ival.specs.Casts.{cast_of};
 ghost use Rattle.ival.specs.Comparisons.{answer_of, truth_of, reduce_of};
-ghost use Rattle.ival.specs.BitOperations.{shifted_of, shl_of, shr_of};
+ghost use Rattle.ival.specs.BitOperations.{bit_and_of, bit_or_of, bit_xor_of, shifted_of, shl_of, shr_of, and_of, or_of, xor_of};
 ghost use Rattle.ival.specs.Laws.{Keeps, KeepsOne, KeepsCounted, KeepsConverted, KeepsBoth, KeepsCommon, KeepsWidened, KeepsAllowed, IsSound, negation_of, complement_of, whole_product_of, shifted_left_of};
 ghost use Rattle.ival.specs.Meet.{meet_of};
 
@@ -88,4 +88,19 @@ pub fn div_keeps()
 /// Remainders of members are members of the remainder.
 pub fn rem_keeps()
     ensures { Keeps remainder_of rem_of }
+{}
+
+/// Members joined by & are members of the result.
+pub fn and_keeps()
+    ensures { Keeps bit_and_of and_of }
+{}
+
+/// Members joined by | are members of the result.
+pub fn or_keeps()
+    ensures { Keeps bit_or_of or_of }
+{}
+
+/// Members joined by ^ are members of the result.
+pub fn xor_keeps()
+    ensures { Keeps bit_xor_of xor_of }
 {}
