@@ -176,7 +176,7 @@ both-short a b x y h k p q =
 
 -- ---- numbers that aren't negative
 
-all-between : (lo hi z : ℤ) → lo ≤ℤ z → z ≤ℤ hi → Has (norm lo hi (pos 0) 1) z
+pub all-between : (lo hi z : ℤ) → lo ≤ℤ z → z ≤ℤ hi → Has (norm lo hi (pos 0) 1) z
 all-between lo hi z h k = norm-keeps lo hi (pos 0) z 1 h k (congruent-apart 1 z (pos 0) (one-divides (distance z (pos 0))))
 
 and-natural : (x y : ℤ) → pos 0 ≤ℤ x → IsOperandNumber x → (pos 0 ≤ℤ int_bit_and w128 x y) × (int_bit_and w128 x y ≤ℤ x)

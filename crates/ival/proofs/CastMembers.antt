@@ -1,6 +1,6 @@
 -- Conversion keeps the converted members.
 use Rattle.std.proofs.Common.{◌≡◌, ℕ, suc, ◌+◌, ◌-◌, ◌*◌, ◌/◌, ◌%◌, ◌^◌, ◌<◌, ◌≤◌, List, [], ◌∷◌, map, ℤ, pos, negsuc, neg_ℤ, ◌+ℤ◌, ◌-ℤ◌, ◌≤ℤ◌, ◌<ℤ◌, refl, ap, sym, subst, ◌∙◌, arith, true, false, ⊎_elim}
-use Rattle.std.specs.Prelude.{Bool, ◌&&◌, int_le, unsigned_abs}
+use Rattle.std.specs.Prelude.{◌↔◌, Bool, ◌&&◌, int_le, unsigned_abs}
 use Rattle.std.specs.List.{Contains}
 use Rattle.std.specs.Int.{int_div_euclid}
 use Rattle.std.specs.Ordering.{int_eq}
@@ -146,3 +146,7 @@ cast-keeps (Range lo hi r m) width signed h w x z p c =
 cast-keeps Every width signed h w x z p c =
     norm-keeps (type_least width signed) (type_greatest width signed) (pos 0) z 1 c.above c.below
     (congruent-apart 1 z (pos 0) (one-divides (distance z (pos 0))))
+
+pub one-conversion : (width : ℕ) (signed : Bool) → 1 ≤ width → (x z : ℤ) → (wrapped width signed x ≡ z) ↔ IsConverted width signed x z
+one-conversion width signed h x z =
+    (λ e. subst (IsConverted width signed x) e (wrapped-converted width signed x h), λ c. converted-unique width signed x (wrapped width signed x) z h (wrapped-converted width signed x h) c)

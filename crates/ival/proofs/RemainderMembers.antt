@@ -24,11 +24,11 @@ size-within : (m y n : ℤ) → m ≤ℤ y → y ≤ℤ n → unsigned_abs y ≤
 size-within m y n h k = grind (arith, ints)
 
 -- a remainder is on the dividend's side of 0, and no further from 0
-rem-low : (x y : ℤ) → pos 0 ≤ℤ x → (pos 0 ≤ℤ int_rem x y) × (int_rem x y ≤ℤ x)
+pub rem-low : (x y : ℤ) → pos 0 ≤ℤ x → (pos 0 ≤ℤ int_rem x y) × (int_rem x y ≤ℤ x)
 rem-low (pos a) y h = (omega (arith, ints), omega (arith, ints, mod-le a (unsigned_abs y)))
 rem-low (negsuc a) y h = absurd (omega (arith, ints, h))
 
-rem-high : (x y : ℤ) → x <ℤ pos 0 → (int_rem x y ≤ℤ pos 0) × (x ≤ℤ int_rem x y)
+pub rem-high : (x y : ℤ) → x <ℤ pos 0 → (int_rem x y ≤ℤ pos 0) × (x ≤ℤ int_rem x y)
 rem-high (pos a) y h = absurd (omega (arith, ints, h))
 rem-high (negsuc a) y h = (omega (arith, ints), omega (arith, ints, mod-le (suc a) (unsigned_abs y)))
 
