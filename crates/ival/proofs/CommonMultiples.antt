@@ -22,7 +22,7 @@ scaled_in (suc t) i d a (suc b) h p q =
     let k = a / suc b in
     let r = a % suc b in
     let split : i * a ≡ k * (i * suc b) + i * r =
-        ap (λ n. i * n) (sym (div-add-mod' a (suc b))) ∙ mul-add i (k * suc b) r ∙ ap (λ n. n + i * r) (sym (mul_assoc i k (suc b)) ∙ ap (λ n. n * suc b) (mul_comm i k) ∙ mul_assoc k i (suc b)) in
+    ap (λ n. i * n) (sym (div-add-mod' a (suc b))) ∙ mul-add i (k * suc b) r ∙ ap (λ n. n + i * r) (sym (mul_assoc i k (suc b)) ∙ ap (λ n. n * suc b) (mul_comm i k) ∙ mul_assoc k i (suc b)) in
     let rest : d ∣ i * r = (dvd-add_iff_right d (dvd-mul_left_of_dvd d q k)).1 (subst (λ (n : ℕ). d ∣ n) split p) in
     scaled_in t i d (suc b) r (omega (arith, h, mod_below a (suc b))) q rest
 
@@ -53,7 +53,7 @@ lcm-divides m n d h p q =
     let n-is : n / g ≡ by.times = quotient-is n g by.times some by.equal in
     let j = divisor n (i * g) (scaled i n m n (multiple n (i * m) q.times (sym p.equal ∙ q.equal)) (multiple n (i * n) i (mul_comm i n ∙ mul_comm n i))) in
     let same : i ≡ j.times * by.times =
-        same-factor i (j.times * by.times) g some (mul_comm g i ∙ j.equal ∙ ap (λ w. j.times * w) by.equal ∙ sym (mul_assoc j.times by.times g) ∙ mul_comm (j.times * by.times) g) in
+    same-factor i (j.times * by.times) g some (mul_comm g i ∙ j.equal ∙ ap (λ w. j.times * w) by.equal ∙ sym (mul_assoc j.times by.times g) ∙ mul_comm (j.times * by.times) g) in
     record {
       times = j.times;
       equal = p.equal ∙ ap (λ w. w * m) same ∙ mul_assoc j.times by.times m ∙ ap (λ w. j.times * w) (mul_comm by.times m ∙ ap (λ w. m * w) (sym n-is));

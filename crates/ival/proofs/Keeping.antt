@@ -140,9 +140,10 @@ spread_from x g [] = (divides_refl g, All-nil (λ y. Divides g (distance y x)))
 spread_from x g (y ∷ ys) =
     let h = gcd g (distance y x) in
     let whole = fold (λ step y. gcd step (distance y x)) h ys in
-    let rest = spread_from x h ys in
-    (divides_trans whole h g rest.0 (gcd-left g (distance y x)),
-    All-cons (λ y. Divides whole (distance y x)) y ys (divides_trans whole h (distance y x) rest.0 (gcd-right g (distance y x))) rest.1)
+    let rest = spread_from x h ys in (
+      divides_trans whole h g rest.0 (gcd-left g (distance y x)),
+      All-cons (λ y. Divides whole (distance y x)) y ys (divides_trans whole h (distance y x) rest.0 (gcd-right g (distance y x))) rest.1,
+    )
 
 -- the numbers of a list are congruent modulo its spread
 pub spread-class : (x y : ℤ) (xs : List ℤ) → Contains xs y → IsCongruent (spread x xs) y x

@@ -65,7 +65,7 @@ product-class g s t u v l m x y e f du dv hm hl hst =
     let b = product-shifted y m l v f in
     let c = product-shifted y m (pos u) v f in
     let whole : x *ℤ y ≡ (((l *ℤ m) +ℤ (pos v *ℤ l)) +ℤ (m *ℤ pos u)) +ℤ (pos v *ℤ pos u) =
-        omega (arith, ints, a, b, c, product-turned l y, product-turned l m, product-turned (pos u) y) in
+    omega (arith, ints, a, b, c, product-turned l y, product-turned l m, product-turned (pos u) y) in
     let one : Divides g (unsigned_abs (pos v *ℤ l)) = divides-scaled g t v (unsigned_abs l) (unsigned_abs (pos v *ℤ l)) dv hl (unsigned_abs-mul (pos v) l) in
     let two : Divides g (unsigned_abs (m *ℤ pos u)) = divides-scaled g s u (unsigned_abs m) (unsigned_abs (m *ℤ pos u)) du hm (unsigned_abs-mul m (pos u) ∙ mul_comm (unsigned_abs m) u) in
     let both : Divides g (s * v) = divides-scaled g t v s (s * v) dv (subst (λ (n : ℕ). Divides g n) (mul_comm s t) hst) (mul_comm s v) in
@@ -94,7 +94,7 @@ range-keeps a b x y (Some c) e h k p q =
     let highest = greatest4-bounded (l *ℤ m) (l *ℤ n) (g *ℤ m) (g *ℤ n) c1.1 c2.1 c3.1 c4.1 in
     let small : IsBounded (x *ℤ y) = record { above = omega (arith, ints, lowest.above, inside.low); below = omega (arith, ints, highest.below, inside.high) } in
     let around : IsAround c.first c.second c.third c.fourth (x *ℤ y) =
-        subst (λ w. IsAround c.first c.second c.third w (x *ℤ y)) c4.0 (subst (λ w. IsAround c.first c.second w (g *ℤ n) (x *ℤ y)) c3.0 (subst (λ w. IsAround c.first w (g *ℤ m) (g *ℤ n) (x *ℤ y)) c2.0 (subst (λ w. IsAround w (l *ℤ n) (g *ℤ m) (g *ℤ n) (x *ℤ y)) c1.0 inside))) in
+    subst (λ w. IsAround c.first c.second c.third w (x *ℤ y)) c4.0 (subst (λ w. IsAround c.first c.second w (g *ℤ n) (x *ℤ y)) c3.0 (subst (λ w. IsAround c.first w (g *ℤ m) (g *ℤ n) (x *ℤ y)) c2.0 (subst (λ w. IsAround w (l *ℤ n) (g *ℤ m) (g *ℤ n) (x *ℤ y)) c1.0 inside))) in
     let d1 = step a * unsigned_abs m in
     let d2 = step b * unsigned_abs l in
     let d = product_step a b in
@@ -102,8 +102,8 @@ range-keeps a b x y (Some c) e h k p q =
     let ra = above-least a x h p in
     let rb = above-least b y k q in
     let class : IsCongruent d (x *ℤ y) (l *ℤ m) =
-        product-class d (step a) (step b) (distance x l) (distance y m) l m x y ra.0 rb.0 ra.1 rb.1
-        (divides_trans d (gcd d1 d2) d1 inner (gcd-left d1 d2)) (divides_trans d (gcd d1 d2) d2 inner (gcd-right d1 d2)) (gcd-right (gcd d1 d2) (step a * step b)) in
+    product-class d (step a) (step b) (distance x l) (distance y m) l m x y ra.0 rb.0 ra.1 rb.1
+    (divides_trans d (gcd d1 d2) d1 inner (gcd-left d1 d2)) (divides_trans d (gcd d1 d2) d2 inner (gcd-right d1 d2)) (gcd-right (gcd d1 d2) (step a * step b)) in
     wide-keeps product_of a b (norm (least_corner c) (greatest_corner c) c.first d) x y (x *ℤ y) (product-some x y small) p q
     (λ none. norm-keeps (least_corner c) (greatest_corner c) c.first (x *ℤ y) d around.low around.high (subst (λ w. IsCongruent d (x *ℤ y) w) c1.0 class))
 

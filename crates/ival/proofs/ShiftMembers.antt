@@ -125,8 +125,8 @@ shr-keeps a b h k counts x y z p q e =
     let high-some : m ≤ℤ pos 63 = omega (arith, ints, w.1, bb.0, bb.1) in
     let corners : Corners = record { first = int_shr l j; second = int_shr l o; third = int_shr g j; fourth = int_shr g o } in
     let there : corners_of shifted_of a b ≡ Some corners =
-        four-is (shifted_of l m) (shifted_of l n) (shifted_of g m) (shifted_of g n) (int_shr l j) (int_shr l o) (int_shr g j) (int_shr g o)
-        (shift-some l m w.0 high-some) (shift-some l n low-some w.1) (shift-some g m w.0 high-some) (shift-some g n low-some w.1) in
+    four-is (shifted_of l m) (shifted_of l n) (shifted_of g m) (shifted_of g n) (int_shr l j) (int_shr l o) (int_shr g j) (int_shr g o)
+    (shift-some l m w.0 high-some) (shift-some l n low-some w.1) (shift-some g m w.0 high-some) (shift-some g n low-some w.1) in
     let inside = shift-around l x g j i o ba.0 ba.1 (omega (arith, ints, j-is, i-is, bb.0)) (omega (arith, ints, o-is, i-is, bb.1)) in
     wide-keeps shifted_of a b (between_corners (corners_of shifted_of a b) (pos 0) 1) x y z e p q
     (λ none. subst (λ c. Has (between_corners c (pos 0) 1) z) (sym there) (subst (Has (between_corners (Some corners) (pos 0) 1)) is (whole-class corners (int_shr x i) inside)))

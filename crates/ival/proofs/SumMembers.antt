@@ -51,9 +51,10 @@ sub-keeps a b h k x y z p q e =
     (congruent_divides g (step b) y (greatest b) (gcd-right (step a) (step b)) (IsCongruent_trans (step b) y (least b) (greatest b) (member-class b y eb q) (IsCongruent_sym (step b) (greatest b) (least b) last))))))
 
 single-operand : (c : ℤ) → IsOperandNumber c → IsOperand (Set (c ∷ []))
-single-operand c h =
-    (record { some = omega arith; few = omega arith; ascending = tt; bounded = All-cons IsBounded c [] record { above = omega (arith, ints, h.above); below = omega (arith, ints, h.below) } (All-nil IsBounded) },
-    All-cons IsOperandNumber c [] h (All-nil IsOperandNumber))
+single-operand c h = (
+  record { some = omega arith; few = omega arith; ascending = tt; bounded = All-cons IsBounded c [] record { above = omega (arith, ints, h.above); below = omega (arith, ints, h.below) } (All-nil IsBounded) },
+  All-cons IsOperandNumber c [] h (All-nil IsOperandNumber),
+)
 
 pub neg-keeps : (a : Ival) → IsOperand a → (x z : ℤ) → Has a x → negation_of x ≡ Some z → Has (neg_of a) z
 neg-keeps a h x z p e =
