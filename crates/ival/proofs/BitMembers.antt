@@ -1,10 +1,10 @@
 -- Bit operations keep the results on members.
-use Rattle.std.proofs.Common.{◌≡◌, ℕ, zero, suc, ◌+◌, ◌-◌, ◌*◌, ◌/◌, ◌%◌, ◌^◌, ◌<◌, ◌≤◌, max, ℤ, pos, negsuc, neg_ℤ, ◌-ℤ◌, ◌≤ℤ◌, Option, Some, None, refl, ap, sym, subst, ◌∙◌, arith, true, false, ⊎_elim, inl, inr, bit_and, bit_or}
-use Rattle.std.specs.Prelude.{◌⊎◌, Bool, cond, ◌&&◌, bit_xor, int_le}
+use Rattle.std.proofs.Common.{◌≡◌, ℕ, suc, ◌+◌, ◌-◌, ◌*◌, ◌/◌, ◌^◌, ◌<◌, ◌≤◌, max, ℤ, pos, negsuc, neg_ℤ, ◌-ℤ◌, ◌≤ℤ◌, Some, refl, ap, sym, subst, ◌∙◌, arith, true, ⊎_elim, inl, inr, bit_and, bit_or}
+use Rattle.std.specs.Prelude.{◌⊎◌, cond, ◌&&◌, bit_xor}
 use Rattle.std.specs.Int.{w128, int_min, int_max, int_bit_and, int_bit_or, int_bit_xor, cast_signed as to_z, cast_unsigned as of_z}
 use Rattle.std.specs.Int.Signed.{mag}
 use Rattle.std.proofs.lemmas.Int.{ints, clamps, to_z_pos}
-use Rattle.std.proofs.lemmas.Nat.{and_shr, or_shr, xor_shr, and_le_l, and_le_r, and_comm, or_lt, xor_lt, le_or_l, le_or_r, leading_length, pow_below, pow_pos, pow-add, div-add-mod', mod_below, div-mul-add}
+use Rattle.std.proofs.lemmas.Nat.{and_shr, or_shr, xor_shr, and_le_l, and_comm, or_lt, xor_lt, le_or_l, le_or_r, leading_length, pow_below, pow_pos, pow-add, div-add-mod', mod_below, div-mul-add}
 use Rattle.std.proofs.lemmas.Bool.{cases_lt}
 use Rattle.std.proofs.lemmas.Bool.Decides.{Decides-and}
 use Rattle.std.proofs.Math.Nat.{le_refl}

@@ -1,6 +1,6 @@
 -- Conversion keeps the converted members.
-use Rattle.std.proofs.Common.{◌≡◌, ℕ, suc, ◌+◌, ◌-◌, ◌*◌, ◌/◌, ◌%◌, ◌^◌, ◌<◌, ◌≤◌, List, [], ◌∷◌, map, ℤ, pos, negsuc, neg_ℤ, ◌+ℤ◌, ◌-ℤ◌, ◌≤ℤ◌, ◌<ℤ◌, refl, ap, sym, subst, ◌∙◌, arith, true, false, ⊎_elim}
-use Rattle.std.specs.Prelude.{◌↔◌, Bool, ◌&&◌, int_le, unsigned_abs}
+use Rattle.std.proofs.Common.{◌≡◌, ℕ, suc, ◌+◌, ◌-◌, ◌*◌, ◌/◌, ◌^◌, ◌<◌, ◌≤◌, List, [], ◌∷◌, map, ℤ, pos, negsuc, ◌+ℤ◌, ◌-ℤ◌, ◌≤ℤ◌, ◌<ℤ◌, refl, ap, sym, subst, ◌∙◌, arith, true, false, ⊎_elim}
+use Rattle.std.specs.Prelude.{◌↔◌, Bool, int_le, unsigned_abs}
 use Rattle.std.specs.List.{Contains}
 use Rattle.std.specs.Int.{int_div_euclid}
 use Rattle.std.specs.Ordering.{int_eq}
@@ -13,7 +13,7 @@ use Rattle.ival.specs.Numbers.{residue, distance, gcd}
 use Rattle.ival.specs.Forms.{Has, HasEnds, IsWellFormed, norm, hull, least, greatest, step}
 use Rattle.ival.specs.Casts.{type_least, type_greatest, wrapped, window, fits_type, cast_range, cast_of}
 use Rattle.ival.specs.Laws.{IsConverted}
-use Rattle.ival.proofs.Classes.{IsCongruent, IsCongruent_sym, IsCongruent_trans, residue-congruent, residue-below, residue-same, residue_is, congruent_from_residue, congruent_shift}
+use Rattle.ival.proofs.Classes.{IsCongruent, IsCongruent_sym, IsCongruent_trans, residue-congruent, residue-below, residue-same, residue_is, congruent_from_residue}
 use Rattle.ival.proofs.CommonNumbers.{Decides-int_le}
 use Rattle.ival.proofs.Keeping.{gcd-left, gcd-right, congruent_divides, congruent-apart, member-between, member-class, norm-keeps, one-divides, abs-is}
 use Rattle.ival.proofs.HullMembers.{hull-has, contains-here, contains-later, contains-cases, contains-none}

@@ -1,33 +1,25 @@
 -- Products and left shifts keep the results on members.
-use Rattle.std.proofs.Common.{◌≡◌, ℕ, zero, suc, ◌+◌, ◌-◌, ◌*◌, ◌^◌, ◌<◌, ◌≤◌, List, [], ◌∷◌, ◌++◌, ℤ, pos, negsuc, neg_ℤ, ◌+ℤ◌, ◌-ℤ◌, ◌*ℤ◌, ◌≤ℤ◌, ◌<ℤ◌, Option, Some, None, refl, ap, sym, subst, ◌∙◌, arith, true, false, ⊎_elim, inl, inr}
-use Rattle.std.specs.Prelude.{Bool, cond, ◌||◌, ◌&&◌, unsigned_abs, unwrap_or, int_le, int_lt, ltb}
-use Rattle.std.specs.List.{All, Contains}
-use Rattle.std.specs.Int.{int_min, int_max}
-use Rattle.std.proofs.lemmas.Int.{ints, clamps, unsigned_abs-mul}
-use Rattle.std.proofs.lemmas.Nat.{pow_below, pow_pos}
+use Rattle.std.proofs.Common.{◌≡◌, ℕ, ◌*◌, ◌^◌, ◌≤◌, ℤ, pos, negsuc, ◌+ℤ◌, ◌*ℤ◌, Option, Some, None, refl, sym, subst, ◌∙◌, arith, true, false, ⊎_elim}
+use Rattle.std.specs.Prelude.{Bool, cond, ◌||◌, unsigned_abs, ltb}
+use Rattle.std.proofs.lemmas.Int.{ints, unsigned_abs-mul}
 use Rattle.std.proofs.lemmas.Bool.{cases_lt}
-use Rattle.std.proofs.lemmas.Bool.Decides.{nat_tests, Decides-and}
-use Rattle.std.proofs.lemmas.List.Elements.{Contains-append_left, Contains-append_right, All-nil}
-use Rattle.std.proofs.Math.Nat.{mul_assoc, mul_comm}
+use Rattle.std.proofs.lemmas.Bool.Decides.{nat_tests}
+use Rattle.std.proofs.Math.Nat.{mul_comm}
 use Rattle.ival.specs.Numbers.{gcd, distance}
-use Rattle.ival.specs.Forms.{IsBounded, Has, HasEnds, IsOperand, IsOperandNumber, norm, hull, has, least, greatest, step, is_empty}
-use Rattle.ival.specs.Pairs.{pointwise}
-use Rattle.ival.specs.Arithmetic.{is_past, product_of, all_four, corners_of, least_corner, greatest_corner, product_step, product_range, mul_of}
-use Rattle.ival.specs.BitOperations.{powers, power_at, shl_of}
-use Rattle.ival.specs.Laws.{whole_product_of, shifted_left_of}
+use Rattle.ival.specs.Forms.{IsBounded, Has, HasEnds, IsOperand, norm, least, greatest, step, is_empty}
+use Rattle.ival.specs.Arithmetic.{is_past, product_of, corners_of, least_corner, greatest_corner, product_step, product_range, mul_of}
+use Rattle.ival.specs.Laws.{whole_product_of}
 use Rattle.ival.proofs.Classes.{IsCongruent, IsCongruent_trans}
 use Rattle.ival.proofs.FormLemmas.{least4-bounded, greatest4-bounded}
 use Rattle.ival.proofs.ProductLemmas.{all_four-parts}
 use Rattle.ival.proofs.Corner.{IsAround, product-around, product-shifted, product-turned}
-use Rattle.ival.proofs.Keeping.{Divides, divides_trans, divides-scaled, gcd-left, gcd-right, congruent-near, congruent-apart, member-between, member-class, norm-keeps, above-least}
-use Rattle.ival.proofs.HullMembers.{hull-has, contains-here}
-use Rattle.ival.proofs.Membership.{by-test, Decides-member}
-use Rattle.ival.proofs.CommonNumbers.{Decides-int_le}
+use Rattle.ival.proofs.Keeping.{Divides, divides_trans, divides-scaled, gcd-left, gcd-right, congruent-near, member-between, norm-keeps, above-least}
+use Rattle.ival.proofs.Membership.{by-test}
 use Rattle.ival.proofs.PointwiseMembers.{wide-keeps, operand-ends}
 use Rattle.ival.proofs.ComparisonMembers.{some-both}
 use Rattle.ival.specs.declared.corners.Corners.{Corners}
 use Rattle.ival.specs.declared.forms.Ival.{Ival}
-use Rattle.ival.specs.declared.forms.Ival.TheVariants.{Empty, Set, Range, All as Every}
+use Rattle.ival.specs.declared.forms.Ival.TheVariants.{Empty}
 
 bounded-from-size : (z : ℤ) → unsigned_abs z ≤ 2 ^ 126 → IsBounded z
 bounded-from-size (pos n) h = record { above = omega (arith, ints); below = omega (arith, ints, h) }

@@ -1,5 +1,5 @@
 -- Quotients keep the results on members.
-use Rattle.std.proofs.Common.{◌≡◌, ℕ, zero, suc, ◌+◌, ◌-◌, ◌*◌, ◌/◌, ◌%◌, ◌^◌, ◌<◌, ◌≤◌, List, [], ◌∷◌, ℤ, pos, negsuc, neg_ℤ, ◌+ℤ◌, ◌-ℤ◌, ◌≤ℤ◌, ◌<ℤ◌, Option, Some, None, refl, ap, sym, subst, ◌∙◌, arith, true, false, ⊎_elim, inl, inr}
+use Rattle.std.proofs.Common.{◌≡◌, ℕ, zero, suc, ◌+◌, ◌-◌, ◌*◌, ◌/◌, ◌%◌, ◌^◌, ◌<◌, ◌≤◌, List, [], ◌∷◌, ℤ, pos, negsuc, neg_ℤ, ◌+ℤ◌, ◌≤ℤ◌, Option, Some, None, refl, ap, sym, subst, ◌∙◌, arith, true, false, ⊎_elim, inl, inr}
 use Rattle.std.specs.Prelude.{◌⊎◌, Bool, cond, ◌&&◌, unsigned_abs, int_div, int_le, nat_eq, nat_lt}
 use Rattle.std.specs.List.{All, filter}
 use Rattle.std.specs.Int.{int_min, int_max}
@@ -10,8 +10,7 @@ use Rattle.std.proofs.lemmas.Bool.Decides.{Decides-and, Decides-eqb, Decides-ltb
 use Rattle.std.proofs.lemmas.List.Elements.{All-weaker, filter_passes}
 use Rattle.std.proofs.Math.Nat.{div-mul-le_self, div-le_self, le_refl, mul_assoc}
 use Rattle.ival.specs.Numbers.{distance}
-use Rattle.ival.specs.Forms.{IsBounded, Has, HasEnds, IsOperand, IsOperandNumber, IsWellFormed, Within, norm, least, greatest, step, is_empty, only_number, set_of}
-use Rattle.ival.specs.Pairs.{pointwise}
+use Rattle.ival.specs.Forms.{IsBounded, Has, HasEnds, IsOperand, IsOperandNumber, IsWellFormed, Within, least, greatest, step, is_empty, only_number, set_of}
 use Rattle.ival.specs.SetOperations.{join_of, trim, is_between}
 use Rattle.ival.specs.Arithmetic.{quotient_of, corners_of, between_corners, least_corner, greatest_corner, divides_all, quotient_rest, quotient_step, quotients_by, div_of}
 use Rattle.ival.proofs.Classes.{IsCongruent}

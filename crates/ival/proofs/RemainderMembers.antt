@@ -1,6 +1,6 @@
 -- Remainders keep the results on members.
-use Rattle.std.proofs.Common.{◌≡◌, ℕ, zero, suc, ◌+◌, ◌-◌, ◌*◌, ◌%◌, ◌<◌, ◌≤◌, max, ℤ, pos, negsuc, neg_ℤ, ◌+ℤ◌, ◌-ℤ◌, ◌*ℤ◌, ◌≤ℤ◌, ◌<ℤ◌, Option, Some, None, refl, ap, sym, subst, ◌∙◌, arith, true, false}
-use Rattle.std.specs.Prelude.{Bool, cond, unsigned_abs, int_div, int_rem, int_lt, nat_eq}
+use Rattle.std.proofs.Common.{◌≡◌, ℕ, suc, ◌-◌, ◌<◌, ◌≤◌, max, ℤ, pos, negsuc, neg_ℤ, ◌+ℤ◌, ◌*ℤ◌, ◌≤ℤ◌, ◌<ℤ◌, Option, Some, None, refl, subst, arith, true}
+use Rattle.std.specs.Prelude.{unsigned_abs, int_div, int_rem, int_lt, nat_eq}
 use Rattle.std.specs.Int.{int_min, int_max}
 use Rattle.std.proofs.lemmas.Int.{ints, clamps, by_lt_z, quot-rem, rem_below, unsigned_abs-mul}
 use Rattle.std.proofs.lemmas.Bool.Decides.{Decides-eqb}
@@ -9,7 +9,6 @@ use Rattle.ival.specs.Numbers.{distance, gcd}
 use Rattle.ival.specs.Forms.{Has, HasEnds, IsOperand, norm, least, greatest, step, only_number}
 use Rattle.ival.specs.Arithmetic.{remainder_of, divisor_size, remainder_rest, remainder_step, lower_remainder, upper_remainder, rem_ends, rem_of}
 use Rattle.ival.proofs.Classes.{IsCongruent, IsCongruent_sym, IsCongruent_trans}
-use Rattle.ival.proofs.FormLemmas.{int_lt_no}
 use Rattle.ival.proofs.Keeping.{Divides, gcd-left, gcd-right, congruent_divides, congruent-near, congruent-apart, one-divides, member-between, member-class, norm-keeps}
 use Rattle.ival.proofs.Membership.{by-test}
 use Rattle.ival.proofs.WidenMembers.{int_by-test}

@@ -1,23 +1,22 @@
 -- Left and right shifts keep the results on members.
-use Rattle.std.proofs.Common.{◌≡◌, ℕ, zero, suc, ◌+◌, ◌-◌, ◌*◌, ◌/◌, ◌^◌, ◌<◌, ◌≤◌, List, [], ◌∷◌, ◌++◌, ℤ, pos, negsuc, ◌+ℤ◌, ◌-ℤ◌, ◌*ℤ◌, ◌≤ℤ◌, ◌<ℤ◌, Option, Some, None, refl, ap, sym, subst, ◌∙◌, arith, true, false, ⊎_elim, inl, inr}
-use Rattle.std.specs.Prelude.{Bool, cond, ◌&&◌, unsigned_abs, unwrap_or, int_le, int_lt}
+use Rattle.std.proofs.Common.{◌≡◌, ℕ, zero, suc, ◌-◌, ◌/◌, ◌^◌, ◌<◌, ◌≤◌, [], ℤ, pos, negsuc, ◌*ℤ◌, ◌≤ℤ◌, ◌<ℤ◌, Some, None, refl, ap, sym, subst, ◌∙◌, arith, true, false, ⊎_elim}
+use Rattle.std.specs.Prelude.{Bool, cond, ◌&&◌, unsigned_abs, int_le, int_lt}
 use Rattle.std.specs.List.{All, Contains}
 use Rattle.std.specs.Option.{option_to_list}
 use Rattle.std.specs.Int.{int_shr}
 use Rattle.std.proofs.lemmas.Int.{ints}
-use Rattle.std.proofs.lemmas.Nat.{pow_below, pow_pos, le-div, mul-le, shr-shr, shr_le, pow-add}
+use Rattle.std.proofs.lemmas.Nat.{pow_below, pow_pos, le-div, shr-shr, shr_le}
 use Rattle.std.proofs.lemmas.Bool.{cases_lt}
 use Rattle.std.proofs.lemmas.Bool.Decides.{Decides-and}
 use Rattle.std.proofs.lemmas.List.Elements.{Contains-append_left, Contains-append_right, All-append, All-cons, All-nil}
 use Rattle.std.proofs.Math.Nat.{div-mul-le_self, le_refl}
-use Rattle.ival.specs.Forms.{Has, HasEnds, IsOperand, IsOperandNumber, IsWellFormed, Within, norm, hull, has, least, greatest}
-use Rattle.ival.specs.Pairs.{pointwise}
-use Rattle.ival.specs.Arithmetic.{all_four, corners_of, between_corners, mul_of}
+use Rattle.ival.specs.Forms.{Has, IsOperand, IsOperandNumber, Within, hull, has, least, greatest}
+use Rattle.ival.specs.Arithmetic.{corners_of, between_corners}
 use Rattle.ival.specs.BitOperations.{powers, power_at, shl_of, shifted_of, shr_of}
 use Rattle.ival.specs.Laws.{shifted_left_of}
 use Rattle.ival.proofs.Corner.{IsBetween, IsAround, around, between-up, between-down}
 use Rattle.ival.proofs.CommonNumbers.{Decides-int_le}
-use Rattle.ival.proofs.Keeping.{congruent-apart, one-divides, member-between, norm-keeps, abs-is}
+use Rattle.ival.proofs.Keeping.{member-between, abs-is}
 use Rattle.ival.proofs.HullMembers.{hull-has, contains-here}
 use Rattle.ival.proofs.Membership.{Decides-member}
 use Rattle.ival.proofs.Operands.{hull-operand}

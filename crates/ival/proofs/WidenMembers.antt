@@ -1,10 +1,10 @@
 -- Widening has the members of both sides.
-use Rattle.std.proofs.Common.{◌≡◌, ℕ, suc, ◌-◌, ◌^◌, ◌<◌, ◌≤◌, List, [], ◌∷◌, ◌++◌, length, get_or, ℤ, pos, neg_ℤ, ◌-ℤ◌, ◌≤ℤ◌, refl, ap, sym, subst, arith, true, false, ⊎_elim, inl, inr}
-use Rattle.std.specs.Prelude.{◌⊎◌, Bool, cond, int_le, unsigned_abs}
-use Rattle.std.specs.List.{All, Contains, fold, filter}
+use Rattle.std.proofs.Common.{◌≡◌, ℕ, ◌-◌, ◌^◌, List, ◌++◌, length, ℤ, pos, neg_ℤ, ◌-ℤ◌, ◌≤ℤ◌, refl, sym, subst, arith, true, false, ⊎_elim}
+use Rattle.std.specs.Prelude.{◌⊎◌, Bool, cond, int_le}
+use Rattle.std.specs.List.{filter}
 use Rattle.std.specs.Int.{int_min, int_max}
 use Rattle.std.proofs.lemmas.Int.{ints, clamps, fold-int_max_reached, fold-int_min_reached}
-use Rattle.std.proofs.lemmas.List.Elements.{All-append, All-get_or, All-weaker, All-contains, filter_passes}
+use Rattle.std.proofs.lemmas.List.Elements.{All-append, All-get_or, All-contains, filter_passes}
 use Rattle.ival.specs.Numbers.{gcd, distance}
 use Rattle.ival.specs.Forms.{IsBounded, Has, HasEnds, IsWellFormed, Within, least, greatest, step, has_ends, is_empty}
 use Rattle.ival.specs.SetOperations.{join_of, joined, included_of, lower_stop, upper_stop, widened_low, widened_high, widened, widened_to, widen_of}
