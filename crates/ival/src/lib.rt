@@ -15,6 +15,7 @@ mod forms;
 mod hull;
 mod inclusion;
 mod join;
+mod laws;
 mod meet;
 mod members;
 mod numbers;
@@ -27,6 +28,12 @@ mod spans;
 mod sums;
 
 pub use forms::{Cmp, Ival};
+pub use laws::{
+    add_keeps, and_keeps, cast_keeps, div_keeps, has_tells, included_is_sound, interval_keeps,
+    join_keeps, meet_keeps, mul_keeps, neg_keeps, not_keeps, of_set_keeps, or_keeps,
+    quotient_and_remainder_divide, reduce_cmp_keeps, rem_keeps, shl_keeps, shr_keeps, sub_keeps,
+    truth_keeps, widen_keeps, xor_keeps,
+};
 pub use members::Members;
 
 #[cfg(test)]
