@@ -1,19 +1,17 @@
 -- Offsets stay offsets: neither none nor every number.
-use Rattle.std.proofs.Common.{◌≡◌, ◌⊎◌, inl, inr, ℕ, ◌<◌, ◌≤◌, ◌^◌, ◌-◌, ◌+◌, ◌/◌, max, List, [], ◌∷◌, ◌++◌, length, refl, sym, ap, subst, ◌∙◌, ℤ, pos, ◌+ℤ◌, ◌-ℤ◌, ◌≤ℤ◌, arith}
+use Rattle.std.proofs.Common.{◌≡◌, inl, ℕ, ◌-◌, ◌+◌, ◌/◌, max, List, [], ◌∷◌, ◌++◌, length, refl, sym, ap, subst, ◌∙◌, ℤ, pos, ◌≤ℤ◌, arith}
 use Rattle.std.proofs.lemmas.Int.{ints}
 use Rattle.std.proofs.lemmas.List.Elements.{All-head}
-use Rattle.std.specs.Prelude.{Bool, true, false, cond, int_lt, nat_lt, nat_le, if◌then◌else◌}
+use Rattle.std.specs.Prelude.{Bool, true, false, cond, int_lt, nat_lt, nat_le}
 use Rattle.ival.specs.Numbers.{distance, residue}
 use Rattle.ival.specs.Lists.{progression, ascending, least_of, greatest_of, spread}
-use Rattle.ival.specs.Forms.{Has, HasEnds, IsWellFormed, IsProgression, Within, strided, norm, first_from, last_to, hull, least, greatest, step}
-use Rattle.ival.specs.SetOperations.{join_of, joined, included_of}
+use Rattle.ival.specs.Forms.{Has, HasEnds, IsWellFormed, Within, strided, norm, first_from, last_to, hull, least, greatest, step}
+use Rattle.ival.specs.SetOperations.{join_of}
 use Rattle.ival.specs.declared.forms.Ival.{Ival}
 use Rattle.ival.specs.declared.forms.Ival.TheVariants.{Empty, Set, Range, All as Every}
-use Rattle.ival.proofs.Classes.{IsCongruent, IsCongruent_sym, IsCongruent_trans}
-use Rattle.ival.proofs.Keeping.{norm-keeps, member-between, member-class, least-member}
+use Rattle.ival.proofs.Keeping.{norm-keeps, member-class, least-member}
 use Rattle.ival.proofs.JoinMembers.{join-keeps}
-use Rattle.ival.proofs.WellFormed.{norm-well_formed}
-use Rattle.avalue.specs.Pointers.{AreInObject, object_end, widened_offsets}
+use Rattle.avalue.specs.Pointers.{AreInObject, object_end}
 
 is_finite : Ival → Bool
 is_finite Empty = true

@@ -1,7 +1,7 @@
 -- A part of a list of pointers is one.
-use Rattle.std.proofs.Common.{◌≡◌, ℕ, ◌<◌, List, [], ◌∷◌, sym, subst, arith}
+use Rattle.std.proofs.Common.{◌≡◌, List, [], ◌∷◌, sym, subst, arith}
 use Rattle.std.specs.Prelude.{Bool, true, false, cond}
-use Rattle.std.specs.List.{All, filter}
+use Rattle.std.specs.List.{filter}
 use Rattle.std.proofs.lemmas.List.Elements.{All-filter}
 use Rattle.avalue.specs.Pointers.{Pointer, AreRising, IsPointer, ArePointers}
 

@@ -1,9 +1,9 @@
 -- A set of one number.
-use Rattle.std.proofs.Common.{◌≡◌, ℕ, zero, suc, ◌<◌, ◌≤◌, List, [], ◌∷◌, refl, sym, subst, ◌∙◌, ℤ, pos, ◌≤ℤ◌, arith}
+use Rattle.std.proofs.Common.{◌≡◌, zero, suc, [], ◌∷◌, refl, sym, subst, ◌∙◌, ℤ, ◌≤ℤ◌, arith}
 use Rattle.ival.specs.Lists.{insert}
 use Rattle.ival.specs.Forms.{HasEnds, IsWellFormed, Within, hull}
 use Rattle.ival.specs.declared.forms.Ival.{Ival}
-use Rattle.ival.specs.declared.forms.Ival.TheVariants.{Empty, Set, Range, All as Every}
+use Rattle.ival.specs.declared.forms.Ival.TheVariants.{Set}
 
 hull_single : (x : ℤ) → hull (x ∷ []) ≡ Set (x ∷ [])
 unfolding hull insert

@@ -1,10 +1,9 @@
 -- What a value may be, and what its operations keep of it.
-use Rattle.std.specs.Prelude.{◌≡◌, ◌≤◌, ◌⊎◌, ℕ, List, true, ℤ, pos, neg_ℤ, ◌-ℤ◌, ◌-◌, ◌^◌}
+use Rattle.std.specs.Prelude.{◌≡◌, ◌⊎◌, ℕ, List, true, ℤ, pos, neg_ℤ, ◌-ℤ◌, ◌-◌, ◌^◌}
 use Rattle.ival.specs.Forms.{Has, Within}
 use Rattle.avalue.specs.Pointers.{offsets_at}
-use Rattle.avalue.specs.Values.{IsWellFormedValue, PointsIntoObjects, IsJoin, IsWidening, IsLocation, IsEscape, value_included}
+use Rattle.avalue.specs.Values.{IsWellFormedValue, PointsIntoObjects, IsJoin, IsWidening, value_included}
 use Rattle.avalue.specs.declared.value.Value.{Value}
-use Rattle.avalue.specs.declared.value.Location.{Location}
 
 -- nothing written yet, a pointer to an object that is gone, a number, or a pointer to a byte of a base
 pub data Member : Type 0 where

@@ -1,7 +1,7 @@
 -- Offsets by base: a finite function, kept as a list with rising bases.
-use Rattle.std.specs.Prelude.{◌≡◌, ◌^◌, ◌<◌, ℕ, List, [], ◌∷◌, Bool, true, false, ◌&&◌, ℤ, pos, nat_lt, nat_eq, if◌then◌else◌}
+use Rattle.std.specs.Prelude.{◌≡◌, ◌^◌, ◌<◌, ℕ, List, [], ◌∷◌, Bool, ℤ, pos, nat_lt, nat_eq, if◌then◌else◌}
 use Rattle.std.specs.List.{All, list_all, list_any}
-use Rattle.ival.specs.Forms.{IsWellFormed, HasEnds, Within, norm, least, step}
+use Rattle.ival.specs.Forms.{HasEnds, Within, norm, least, step}
 use Rattle.ival.specs.SetOperations.{join_of, included_of}
 use Rattle.ival.specs.declared.forms.Ival.{Ival}
 use Rattle.ival.specs.declared.forms.Ival.TheVariants.{Empty, Set, Range, All as Every}

@@ -3,7 +3,6 @@ use Rattle.std.specs.Prelude.{◌≡◌, ℕ, List, Bool, ◌&&◌, ◌||◌, no
 use Rattle.std.specs.List.{All, filter, list_any}
 use Rattle.ival.specs.Forms.{IsWellFormed, has}
 use Rattle.ival.specs.SetOperations.{join_of, included_of, widen_of}
-use Rattle.ival.specs.declared.forms.Ival.{Ival}
 use Rattle.avalue.specs.Pointers.{ArePointers, AreCombined, AreInObject, widened_offsets, pointers_included, is_listed}
 use Rattle.avalue.specs.declared.value.Value.{Value}
 use Rattle.avalue.specs.declared.value.Location.{Location}

@@ -1,5 +1,4 @@
-use Rattle.std.proofs.Common.{rules, refl, ℕ, ◌≡◌, ◌≤◌, ◌⊎◌, inl, inr, ◌∙◌, ap, ◌++◌, [], ◌∷◌, arith, length}
-use Rattle.avalue.specs.Pointers.{IsPointer}
+use Rattle.std.proofs.Common.{rules, refl, ◌∙◌, ap, ◌++◌, [], ◌∷◌, arith}
 use Rattle.avalue.proofs.Merging.{turn_left, turn_right, turn_both, pointer_at, all_pushed, ended, with_rests}
 use Rattle.avalue.proofs.pointers.merge.Goals as goal
 
