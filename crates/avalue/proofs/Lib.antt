@@ -1,0 +1,5 @@
+pub mod Merging
+pub mod Ends
+pub mod Filters
+pub mod Members
+pub mod Single

@@ -1,0 +1,69 @@
+ghost use Rattle.std.specs.Prelude.{◌≡◌, ◌≤ℤ◌, pos, IfOk};
+ghost use Rattle.ival.specs.Forms.{HasEnds};
+ghost use Rattle.avalue.specs.Pointers.{AreInObject, object_end};
+ghost use Rattle.avalue.specs.Values.{IsWellFormedValue, PointsIntoObjects};
+
+use crate::Value;
+use ival::Ival;
+use std::alloc::Global;
+use std::test::Fail;
+
+/// One offset.
+fn at(offset: i128) -> Ival
+    requires low { pos 0 ≤ℤ offset }
+    requires high { offset ≤ℤ object_end }
+    ensures ends { HasEnds result }
+    ensures inside { AreInObject result }
+{
+    Ival::of_set(&[offset])
+}
+
+/// Pointers to one base.
+fn pointing(alloc: Global, base: u32, offsets: Ival) -> Result<Value, Fail>
+    requires ends { HasEnds offsets }
+    requires inside { AreInObject offsets }
+    ensures formed { IfOk result IsWellFormedValue }
+    ensures inside { IfOk result PointsIntoObjects }
+    ensures ints { IfOk result (λ v. v.ints ≡ Ival.Empty) }
+{
+    let mut ptrs = Vec::new(alloc);
+    ptrs.push((base, offsets))?;
+    Ok(Value {
+        uninit: false,
+        dangling: false,
+        ints: Ival::Empty,
+        ptrs,
+    })
+}
+
+#[test]
+fn values_are_joined_part_by_part(rt: HostRuntime) -> Result<(), Fail> {
+    let a = pointing(rt.alloc(), 7, at(4))?;
+    let mut b = pointing(rt.alloc(), 7, at(8))?;
+    b.uninit = true;
+    let c = pointing(rt.alloc(), 3, at(4))?;
+    let both = a.join(&b)?.join(&c)?;
+    assert!(rt; both.uninit && !both.dangling && both.ints == Ival::Empty);
+    assert!(rt; both.ptrs.as_slice() == [(3, at(4)), (7, Ival::of_set(&[4, 8]))].as_slice());
+    assert!(rt; a.included(&both) && !both.included(&a));
+    Ok(())
+}
+
+#[test]
+fn offsets_that_grow_are_widened(rt: HostRuntime) -> Result<(), Fail> {
+    let a = pointing(rt.alloc(), 7, at(0))?;
+    let b = pointing(rt.alloc(), 7, at(4))?;
+    let wide = a.widen(&b, &[], 32)?;
+    let all = Ival::Range {
+        lo: 0,
+        hi: 1 << 21,
+        r: 0,
+        m: 4,
+    };
+    assert!(rt; wide.ptrs.as_slice() == [(7, all)].as_slice());
+    let place = wide.to_location()?;
+    assert!(rt; !place.null && place.places.as_slice() == [(7, all)].as_slice());
+    let gone = wide.escape(&[7])?;
+    assert!(rt; gone.dangling && gone.ptrs.is_empty());
+    Ok(())
+}
