@@ -1,0 +1,17 @@
+pub mod Scope
+pub mod Input
+pub mod Parser
+pub mod Nest
+pub mod Specifiers
+pub mod Declarators
+pub mod Expressions
+pub mod Levels
+pub mod Initialisers
+pub mod Declarations
+pub mod Statements
+pub mod FileScope
+pub mod Words
+pub mod Numbers
+pub mod Gives
+pub mod Nests
+pub mod Below
