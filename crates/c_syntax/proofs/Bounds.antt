@@ -1,5 +1,5 @@
 -- Where a word was seen, the place lies in the list.
-use Rattle.std.proofs.Common.{◌≡◌, ◌≢◌, ◌⊎◌, inl, inr, ℕ, ◌<◌, ◌≤◌, ap, List, length, arith}
+use Rattle.std.proofs.Common.{◌≢◌, ◌⊎◌, inl, inr, ℕ, ◌<◌, ◌≤◌, ap, List, length, arith}
 use Rattle.std.proofs.lemmas.Option.{slice_get_past}
 use Rattle.c_syntax.specs.declared.word.Sign.TheVariants as sign
 use Rattle.c_syntax.specs.Input.{Word, State, look_at, sign_at}

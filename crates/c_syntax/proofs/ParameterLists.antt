@@ -1,10 +1,10 @@
 -- A loop that reads parameters: what was read so far, in front of what is left.
-use Rattle.std.proofs.Common.{◌≡◌, ℕ, zero, suc, ◌+◌, ◌-◌, ◌<◌, ◌≤◌, max, ap, sym, refl, ◌∙◌, arith, Bool, true, false, List, [], ◌∷◌, ◌++◌, Ok, Err}
+use Rattle.std.proofs.Common.{◌≡◌, ℕ, suc, ◌+◌, ◌-◌, ◌<◌, ◌≤◌, max, ap, sym, refl, ◌∙◌, arith, Bool, true, false, List, [], ◌∷◌, ◌++◌, Ok, Err}
 use Rattle.std.proofs.Math.Nat.{max-zero}
 use Rattle.std.proofs.lemmas.List.{append_assoc, append-nil}
 use Rattle.c_syntax.specs.declared.error.SyntaxStop.{SyntaxStop}
 use Rattle.c_syntax.specs.declared.tree.Param.{Param}
-use Rattle.c_syntax.specs.Input.{Words, State, Sign, look_at, step}
+use Rattle.c_syntax.specs.Input.{Words, State, look_at, step}
 use Rattle.c_syntax.specs.Parser.{Parser, Outcome, Stop, ◌>>=◌, ◌>>◌, and_then, pure, look, skip, if_so, Measured}
 use Rattle.c_syntax.specs.Nest.{Nest}
 use Rattle.c_syntax.specs.Specifiers.{is_comma}

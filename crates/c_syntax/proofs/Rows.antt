@@ -1,9 +1,9 @@
 -- Loops that push what they read onto a list.
-use Rattle.std.proofs.Common.{◌≡◌, ℕ, suc, ◌+◌, ◌-◌, ◌<◌, ◌≤◌, ap, refl, sym, ◌∙◌, subst, arith, Bool, true, false, List, [], ◌∷◌, ◌++◌, Ok, Err}
+use Rattle.std.proofs.Common.{◌≡◌, ℕ, suc, ◌+◌, ◌-◌, ◌<◌, ◌≤◌, ap, refl, sym, ◌∙◌, arith, Bool, true, false, List, [], ◌∷◌, ◌++◌, Ok, Err}
 use Rattle.std.proofs.lemmas.List.{append_assoc}
 use Rattle.c_syntax.specs.declared.error.SyntaxStop.{SyntaxStop}
 use Rattle.c_syntax.specs.Input.{Words, State, Sign, look_at, step}
-use Rattle.c_syntax.specs.Parser.{Parser, Outcome, Stop, ◌>>=◌, ◌>>◌, and_then, pure, look, skip, if_so, many, many_from, most_words, trailed, trailed_from}
+use Rattle.c_syntax.specs.Parser.{Parser, Outcome, ◌>>=◌, ◌>>◌, and_then, pure, look, skip, if_so, many, many_from, most_words, trailed, trailed_from}
 use Rattle.c_syntax.specs.Gives.{Refuses}
 use Rattle.c_syntax.proofs.Lists.{handed_on}
 

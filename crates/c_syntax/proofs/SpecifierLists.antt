@@ -7,7 +7,7 @@ use Rattle.c_syntax.specs.declared.error.SyntaxStop.{SyntaxStop}
 use Rattle.c_syntax.specs.declared.tree.Spec.{Spec}
 use Rattle.c_syntax.specs.declared.grown.Specs.{Specs}
 use Rattle.c_syntax.specs.Input.{Words, State, Sign, look_at}
-use Rattle.c_syntax.specs.Parser.{Parser, Outcome, Stop, ◌>>=◌, and_then, pure, if_so, Measured}
+use Rattle.c_syntax.specs.Parser.{Outcome, Stop, ◌>>=◌, and_then, pure, if_so, Measured}
 use Rattle.c_syntax.specs.Nest.{Nest}
 use Rattle.c_syntax.specs.Specifiers.{no_specs, with_spec, behind, is_type_specifier, is_typedef, spec_by, specs_from}
 use Rattle.c_syntax.specs.Gives.{Refuses}

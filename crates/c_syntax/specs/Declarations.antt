@@ -1,13 +1,12 @@
 -- Declarations (6.7).
-use Rattle.std.specs.Prelude.{ℕ, zero, suc, Bool, true, false, List, [], ◌∷◌, Option, Some, None, Ok}
-use Rattle.c_syntax.specs.declared.tree.Init.{Init}
+use Rattle.std.specs.Prelude.{ℕ, Bool, List, [], ◌∷◌, Option, Some, None, Ok}
 use Rattle.c_syntax.specs.declared.tree.InitPart.{InitPart}
 use Rattle.c_syntax.specs.declared.tree.Declaration.{Declaration}
 use Rattle.c_syntax.specs.declared.grown.Specs.{Specs}
 use Rattle.c_syntax.specs.declared.grown.Declares.{Declares}
 use Rattle.c_syntax.specs.declared.grown.Mode.TheVariants as mode
 use Rattle.c_syntax.specs.declared.word.Sign.TheVariants as sign
-use Rattle.c_syntax.specs.Input.{Words, State, Sign, Names}
+use Rattle.c_syntax.specs.Input.{State, Sign, Names}
 use Rattle.c_syntax.specs.Parser.{Parser, ◌>>=◌, ◌>>◌, pure, look, here, skip, expect, many}
 use Rattle.c_syntax.specs.Specifiers.{is_comma, is_semicolon, declaration_specs, specs_after_name}
 use Rattle.c_syntax.specs.Initialisers.{Inits}

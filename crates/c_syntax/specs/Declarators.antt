@@ -11,8 +11,8 @@ use Rattle.c_syntax.specs.declared.grown.Mode.{Mode}
 use Rattle.c_syntax.specs.declared.declarators.Listed.{Listed}
 use Rattle.c_syntax.specs.declared.grown.Mode.TheVariants as mode
 use Rattle.c_syntax.specs.declared.word.Sign.TheVariants as sign
-use Rattle.c_syntax.specs.Input.{Words, State, Sign, Names, oldest, specifies, is_name}
-use Rattle.c_syntax.specs.Parser.{Parser, ◌>>=◌, ◌>>◌, pure, look, here, skip, refuse, too_deep_here, left_out_here, no_room, if_so, expect, take_name, declare, most_words, many, Measured}
+use Rattle.c_syntax.specs.Input.{Sign, Names, oldest, specifies, is_name}
+use Rattle.c_syntax.specs.Parser.{Parser, ◌>>=◌, ◌>>◌, pure, look, here, skip, refuse, too_deep_here, left_out_here, if_so, expect, take_name, declare, most_words, many, Measured}
 use Rattle.c_syntax.specs.Nest.{Nest}
 use Rattle.c_syntax.specs.Specifiers.{is_comma, qualifier_specs, declaration_specs}
 

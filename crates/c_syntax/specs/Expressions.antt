@@ -6,7 +6,7 @@ use Rattle.c_syntax.specs.declared.tree.ExForm.TheVariants as form
 use Rattle.c_syntax.specs.declared.tree.Param.{Param}
 use Rattle.c_syntax.specs.declared.grown.Grown.{Grown}
 use Rattle.c_syntax.specs.declared.word.Sign.TheVariants as sign
-use Rattle.c_syntax.specs.Input.{Words, State, Sign, look_at, qualifies, binds, wants, begins_expression}
+use Rattle.c_syntax.specs.Input.{Sign, look_at, qualifies, binds, wants}
 use Rattle.c_syntax.specs.Parser.{Parser, ◌>>=◌, ◌>>◌, pure, look, here, skip, refuse, too_deep_here, left_out_here, if_so, expect, any_name, many, separated, gathered, Measured}
 use Rattle.c_syntax.specs.Nest.{Nest}
 use Rattle.c_syntax.specs.Specifiers.{is_comma}

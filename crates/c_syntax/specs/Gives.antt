@@ -1,5 +1,5 @@
 -- What a function that parses ensures.
-use Rattle.std.specs.Prelude.{◌≡◌, ◌≢◌, ◌≤◌, ℕ, List, length, Result, Ok, Err}
+use Rattle.std.specs.Prelude.{◌≡◌, ◌≤◌, ℕ, Result, Ok, Err}
 use Rattle.c_syntax.specs.declared.error.SyntaxStop.{SyntaxStop}
 use Rattle.c_syntax.specs.declared.error.SyntaxStop.TheVariants as stop
 use Rattle.c_syntax.specs.Input.{State}

@@ -1,5 +1,5 @@
 -- What a parser reads from, and what it sees of a word.
-use Rattle.std.specs.Prelude.{◌≡◌, ℕ, zero, suc, ◌≤◌, nat_le, Bool, true, false, if◌then◌else◌, List, [], ◌∷◌, Option, Some, None}
+use Rattle.std.specs.Prelude.{ℕ, suc, Bool, true, false, Option, Some, None}
 pub use Rattle.c_syntax.specs.declared.word.Sign.{Sign}
 pub use Rattle.c_syntax.specs.declared.word.Word.{Word}
 pub use Rattle.c_syntax.specs.declared.word.Place.{Place as State}

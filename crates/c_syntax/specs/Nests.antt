@@ -15,7 +15,6 @@ use Rattle.c_syntax.specs.declared.tree.MemberLine.{MemberLine}
 use Rattle.c_syntax.specs.Input.{State, Words}
 use Rattle.c_syntax.specs.Parser.{Outcome}
 use Rattle.c_syntax.specs.Words.{words_of}
-use Rattle.c_syntax.specs.Nest.{Nest}
 use Rattle.c_syntax.specs.Levels.{nest}
 use Rattle.c_syntax.specs.Gives.{Refuses}
 

@@ -1,7 +1,7 @@
 -- Parsers on words: an outcome for each place, and how they are put together.
-use Rattle.std.specs.Prelude.{◌≡◌, ℕ, zero, suc, ◌-◌, max, Bool, true, false, if◌then◌else◌, List, [], ◌∷◌, length, map, Option, Some, None, Result, Ok, Err}
+use Rattle.std.specs.Prelude.{ℕ, zero, suc, ◌-◌, max, Bool, true, false, List, [], ◌∷◌, length, map, Result, Ok, Err}
 use Rattle.c_syntax.specs.declared.word.Sign.TheVariants as sign
-use Rattle.c_syntax.specs.Input.{Words, State, step, Sign, look_at, name_in, is_name, Names, oldest}
+use Rattle.c_syntax.specs.Input.{Words, State, step, Sign, look_at, name_in, is_name, oldest}
 pub use Rattle.c_syntax.specs.declared.grown.Measured.{Measured}
 
 -- Syntax, TooDeep and OutOfProfile at a place

@@ -1,5 +1,5 @@
 -- The ordinary identifiers in scope, the newest first, each by its number, with whether it is a typedef name (C11 6.2.1, 6.7.8).
-use Rattle.std.specs.Prelude.{◌≡◌, ◌<◌, get_or, ◌-◌, ◌==◌, ℕ, Bool, true, false, if◌then◌else◌, List, [], ◌∷◌, length, drop}
+use Rattle.std.specs.Prelude.{◌≡◌, ◌<◌, get_or, ◌-◌, ◌==◌, ℕ, Bool, false, if◌then◌else◌, List, [], ◌∷◌, length, drop}
 
 abbrev pub Names : Type 0
 Names = List (ℕ × Bool)

@@ -1,6 +1,5 @@
 -- Declaration specifiers, structs and enumerations (6.7 to 6.7.3).
 use Rattle.std.specs.Prelude.{ℕ, zero, suc, ◌-◌, max, Bool, true, false, ◌||◌, List, [], ◌∷◌, ◌++◌, Option, Some, None}
-use Rattle.c_syntax.specs.declared.tree.Ex.{Ex}
 use Rattle.c_syntax.specs.declared.tree.Spec.{Spec}
 use Rattle.c_syntax.specs.declared.tree.Spec.TheVariants as spec
 use Rattle.c_syntax.specs.declared.tree.MemberLine.{MemberLine, roll-MemberLine}
@@ -11,8 +10,8 @@ use Rattle.c_syntax.specs.declared.grown.Specs.{Specs}
 use Rattle.c_syntax.specs.declared.specifiers.Allowed.{Allowed}
 use Rattle.c_syntax.specs.declared.specifiers.Allowed.TheVariants as allowed
 use Rattle.c_syntax.specs.declared.word.Sign.TheVariants as sign
-use Rattle.c_syntax.specs.Input.{Words, State, Sign, qualifies, specifies, is_name}
-use Rattle.c_syntax.specs.Parser.{Parser, ◌>>=◌, ◌>>◌, pure, look, here, skip, refuse, left_out_here, most_words, if_so, expect, any_name, declare, many, one_or_more, separated, trailed, gathered, Measured, trees, deepest}
+use Rattle.c_syntax.specs.Input.{Sign, qualifies, specifies}
+use Rattle.c_syntax.specs.Parser.{Parser, ◌>>=◌, ◌>>◌, pure, look, here, skip, refuse, left_out_here, most_words, if_so, expect, any_name, declare, one_or_more, separated, trailed, gathered, Measured}
 use Rattle.c_syntax.specs.Nest.{Nest}
 
 abbrev pub is_comma : Sign → Bool

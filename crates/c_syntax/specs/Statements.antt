@@ -1,5 +1,5 @@
 -- Statements and blocks (6.8).
-use Rattle.std.specs.Prelude.{ℕ, zero, suc, Bool, true, false, List, [], ◌∷◌, Option, Some, None}
+use Rattle.std.specs.Prelude.{ℕ, zero, suc, Bool, true, false, List, Option, Some, None}
 use Rattle.c_syntax.specs.declared.tree.Ex.{Ex}
 use Rattle.c_syntax.specs.declared.tree.Stmt.{Stmt, roll-Stmt}
 use Rattle.c_syntax.specs.declared.tree.StmtForm.{StmtForm}
@@ -10,7 +10,7 @@ use Rattle.c_syntax.specs.declared.tree.ForStart.{ForStart}
 use Rattle.c_syntax.specs.declared.tree.ForStart.TheVariants as start
 use Rattle.c_syntax.specs.declared.grown.Grown.{Grown}
 use Rattle.c_syntax.specs.declared.grown.Built.{Built}
-use Rattle.c_syntax.specs.declared.statements.ForHead.{ForHead}
+use Rattle.c_syntax.specs.declared.branches.ForHead.{ForHead}
 use Rattle.c_syntax.specs.declared.word.Sign.TheVariants as sign
 use Rattle.c_syntax.specs.Input.{Sign, specifies, begins_expression}
 use Rattle.c_syntax.specs.Parser.{Parser, ◌>>=◌, ◌>>◌, pure, look, here, skip, refuse, left_out_here, no_room, too_deep_here, if_so, expect, any_name, scoped, many}

@@ -1,5 +1,5 @@
 -- The words of a file: what the grammar sees of each token.
-use Rattle.std.specs.Prelude.{◌≡◌, ℕ, suc, ◌+◌, Bool, true, false, if◌then◌else◌, List, [], ◌∷◌, Option, Some, None, length, take, drop, slice_get, bytes_eq, codes, map, ◌==◌}
+use Rattle.std.specs.Prelude.{ℕ, suc, Bool, true, false, if◌then◌else◌, List, [], ◌∷◌, take, drop, slice_get, bytes_eq, codes, map, ◌==◌}
 use Rattle.c_lex.specs.Bytes.{Text}
 use Rattle.c_lex.specs.declared.token.Token.{Token}
 use Rattle.c_lex.specs.declared.token.TokenKind.{TokenKind}

@@ -44,7 +44,7 @@ pub fn nothing(words: &[Word], place: &Place, wanted: Wanted) -> SyntaxStop
 
 /// Reads a node that may nest one deeper than the room of the grammar.
 #[tactic(auto, unfolding(crate::specs::Levels::nest))]
-fn one_level<F: Fn(Global, &[Word], &mut Place, u32, Wanted) -> Result<Node, SyntaxStop>>(
+pub fn one_level<F: Fn(Global, &[Word], &mut Place, u32, Wanted) -> Result<Node, SyntaxStop>>(
     grammar: &Grammar<F>,
     words: &[Word],
     place: &mut Place,

@@ -1,25 +1,17 @@
-//! The syntax tree of a list of tokens (C11 Annex A.2). Unfinished: it is not proved as a whole.
+//! The syntax tree of a file from its tokens, by the grammar of C11 Annex A.2.
 //!
-//! - `specs/` has the plain parser of the whole grammar, and checks: `Words` (what the grammar sees of a token), `Scope`,
-//!   `Input` (signs, levels of precedence), `Parser` (outcomes, combinators, lists), `Nest` (the parsers one level of room
-//!   below, which each rule takes as `sub`), `Specifiers`, `Declarators`, `Expressions`, `Levels` (which ties these by
-//!   levels of room), `Initialisers`, `Declarations`, `Statements`, `FileScope` (`translation_unit`). `Gives` and `Nests`
-//!   are what the code ensures and is given.
-//! - `src/` has the code of the whole grammar. Its tests passed under `rt try --test`, and are to be run again: small
-//!   changes of form in `input`, `nest`, `expressions` and `statements` came after that run.
-//! - Proved equal to the definitions so far, each by `rt check --only`: `vocabulary::kind_sign` with its tables; in `input`
-//!   `sign`, `skip`, `refuse`, `too_deep`, `left_out`, `no_room`, `take_name`, `any_name` and `close_paren`;
-//!   `Scope::is_type`; `Grammar::expr` of `nest`; `over` and `Grammar::joined` of `expressions`.
-//! - Clauses are written, and not yet checked, in the rest of `scope`, `input`, `nest` and `expressions`; `arguments` and
-//!   `member_of` of `expressions` have none yet. Loops (`climb`, `string`, those of `scope`) want invariants.
-//! - No clauses yet: `specifiers`, `declarators`, `levels`, `initialisers`, `declarations`, `statements`, `file_scope`,
-//!   `words`, and `parse` itself.
+//! `parse` answers what the plain parser of `specs/FileScope` reads from the words: the tree, or the first stop with its
+//! token. It goes from left to right, one word ahead. `specs/` has one rule for each production; each function here equals
+//! its rule. `word`, `words`, `scope` and `input` say what the grammar sees of a token; `nest` and `levels` tie the rules of
+//! expressions, declarators and specifiers, which hold one another, by how deep they may still nest; the rest stands on these.
+//! Stands on `c_lex`.
 #![tactic(auto)]
 
 ghost use Rattle.std.specs.Prelude.{◌≤◌, length};
 ghost use Rattle.c_syntax.specs.FileScope as grammar;
 ghost use Rattle.c_syntax.specs.Words as spec;
 
+mod branches;
 mod declarations;
 mod declarators;
 mod error;

@@ -26,7 +26,7 @@ use crate::word::{Place, Sign, Word};
 use sqlite_items::{Boxed, Items};
 use std::alloc::Global;
 
-fn built(at: u32, form: StmtForm, waits: bool) -> Built
+pub fn built(at: u32, form: StmtForm, waits: bool) -> Built
     ensures { result ≡ spec.built at form waits }
 {
     Built {
@@ -75,14 +75,6 @@ fn is_no_close_brace(sign: Sign) -> bool
     }
 }
 
-/// What stands in the brackets of a `for` statement (C11 6.8.5).
-#[derive(Drop)]
-pub struct ForHead {
-    pub start: ForStart,
-    pub test: Option<Ex>,
-    pub last: Option<Ex>,
-}
-
 /// The rules of statements, over the parser of those one level of room below. That one takes a label's place where its
 /// name was read and the colon comes.
 #[derive(Clone, Copy)]
@@ -96,7 +88,7 @@ pub struct Statements<F> {
 impl<F: Fn(Global, &[Word], &mut Place, u32, Option<u32>) -> Result<Built, SyntaxStop>> Statements<
     F,
 > {
-    fn sub(&self, words: &[Word], place: &mut Place) -> Result<Built, SyntaxStop>
+    pub fn sub(&self, words: &[Word], place: &mut Place) -> Result<Built, SyntaxStop>
         requires below { Holds self.now.room (F.pre self.now.statement) (F.post self.now.statement) }
         requires short { length words.now ≤ 1048576 }
         ensures gives { Gives ((spec.parts_within self.now.room).statement (words_of words.now) place.old) result place.new }
@@ -115,7 +107,7 @@ impl<F: Fn(Global, &[Word], &mut Place, u32, Option<u32>) -> Result<Built, Synta
 
     /// A substatement, which is a block (C11 6.8.4p3, 6.8.5p5).
     #[tactic(auto, unfolding(crate::specs::Parser::scoped))]
-    fn inner(&self, words: &[Word], place: &mut Place) -> Result<Built, SyntaxStop>
+    pub fn inner(&self, words: &[Word], place: &mut Place) -> Result<Built, SyntaxStop>
         requires below { Holds self.now.room (F.pre self.now.statement) (F.post self.now.statement) }
         requires short { length words.now ≤ 1048576 }
         ensures gives { Gives (spec.inner (spec.parts_within self.now.room) (words_of words.now) place.old) result place.new }
@@ -126,7 +118,7 @@ impl<F: Fn(Global, &[Word], &mut Place, u32, Option<u32>) -> Result<Built, Synta
         Ok(built)
     }
 
-    fn expr(&self, words: &[Word], place: &mut Place, least: u8) -> Result<Grown, SyntaxStop>
+    pub fn expr(&self, words: &[Word], place: &mut Place, least: u8) -> Result<Grown, SyntaxStop>
         requires below { Holds self.now.room (F.pre self.now.statement) (F.post self.now.statement) }
         requires short { length words.now ≤ 1048576 }
         ensures gives { Gives ((spec.parts_within self.now.room).inits.exprs.expr least (words_of words.now) place.old) result place.new }
@@ -134,7 +126,7 @@ impl<F: Fn(Global, &[Word], &mut Place, u32, Option<u32>) -> Result<Built, Synta
         expr(self.alloc, words, place, self.room, least)
     }
 
-    fn declaration(&self, words: &[Word], place: &mut Place) -> Result<Declaration, SyntaxStop>
+    pub fn declaration(&self, words: &[Word], place: &mut Place) -> Result<Declaration, SyntaxStop>
         requires below { Holds self.now.room (F.pre self.now.statement) (F.post self.now.statement) }
         requires short { length words.now ≤ 1048576 }
         ensures gives { Gives (declaration (spec.parts_within self.now.room).inits (words_of words.now) place.old) result place.new }
@@ -144,237 +136,6 @@ impl<F: Fn(Global, &[Word], &mut Place, u32, Option<u32>) -> Result<Built, Synta
             room: self.room,
         };
         declarations.declaration(words, place)
-    }
-
-    #[tactic(auto, unfolding(crate::specs::Statements::condition))]
-    fn condition(&self, words: &[Word], place: &mut Place) -> Result<Ex, SyntaxStop>
-        requires below { Holds self.now.room (F.pre self.now.statement) (F.post self.now.statement) }
-        requires short { length words.now ≤ 1048576 }
-        ensures gives { Gives (spec.condition (spec.parts_within self.now.room) (words_of words.now) place.old) result place.new }
-    {
-        open_paren(words, place)?;
-        let e = self.expr(words, place, 1)?;
-        close_paren(words, place)?;
-        Ok(e.tree)
-    }
-
-    /// An expression that may be left out before the word that ends it.
-    fn optional(
-        &self,
-        words: &[Word],
-        place: &mut Place,
-        ends: bool,
-    ) -> Result<Option<Ex>, SyntaxStop>
-        requires below { Holds self.now.room (F.pre self.now.statement) (F.post self.now.statement) }
-        requires short { length words.now ≤ 1048576 }
-        ensures gives { Gives (spec.optional (spec.parts_within self.now.room) ends (words_of words.now) place.old) result place.new }
-    {
-        if ends {
-            return Ok(None);
-        }
-        let e = self.expr(words, place, 1)?;
-        Ok(Some(e.tree))
-    }
-
-    #[tactic(auto, unfolding(crate::specs::Statements::optional_before))]
-    fn optional_before_semicolon(
-        &self,
-        words: &[Word],
-        place: &mut Place,
-    ) -> Result<Option<Ex>, SyntaxStop>
-        requires below { Holds self.now.room (F.pre self.now.statement) (F.post self.now.statement) }
-        requires short { length words.now ≤ 1048576 }
-        ensures gives { Gives (spec.optional_before (spec.parts_within self.now.room) lists.is_semicolon (words_of words.now) place.old) result place.new }
-    {
-        let ends = is_semicolon(sign(words, place));
-        let e = self.optional(words, place, ends)?;
-        semicolon(words, place)?;
-        Ok(e)
-    }
-
-    #[tactic(auto, unfolding(crate::specs::Statements::optional_before))]
-    fn optional_before_paren(
-        &self,
-        words: &[Word],
-        place: &mut Place,
-    ) -> Result<Option<Ex>, SyntaxStop>
-        requires below { Holds self.now.room (F.pre self.now.statement) (F.post self.now.statement) }
-        requires short { length words.now ≤ 1048576 }
-        ensures gives { Gives (spec.optional_before (spec.parts_within self.now.room) brackets.is_close_paren (words_of words.now) place.old) result place.new }
-    {
-        let ends = is_close_paren(sign(words, place));
-        let e = self.optional(words, place, ends)?;
-        close_paren(words, place)?;
-        Ok(e)
-    }
-
-    /// Behind the first substatement of an `if`. An `else` belongs to the nearest `if` that may have one (C11 6.8.4.1).
-    fn behind_then(
-        &self,
-        words: &[Word],
-        place: &mut Place,
-        at: u32,
-        e: Ex,
-        a: Built,
-    ) -> Result<Built, SyntaxStop>
-        requires below { Holds self.now.room (F.pre self.now.statement) (F.post self.now.statement) }
-        requires short { length words.now ≤ 1048576 }
-        ensures gives { Gives (parser.look (spec.else_by (spec.parts_within self.now.room) at e a) (words_of words.now) place.old) result place.new }
-    {
-        match sign(words, place) {
-            Sign::Else => self.behind_else(words, place, at, e, a),
-            _ => {
-                let first = Boxed::new(self.alloc, a.tree)?;
-                Ok(built(at, StmtForm::If(e, first, None), true))
-            }
-        }
-    }
-
-    /// At an `else`.
-    fn behind_else(
-        &self,
-        words: &[Word],
-        place: &mut Place,
-        at: u32,
-        e: Ex,
-        a: Built,
-    ) -> Result<Built, SyntaxStop>
-        requires below { Holds self.now.room (F.pre self.now.statement) (F.post self.now.statement) }
-        requires short { length words.now ≤ 1048576 }
-        requires seen { input.look_at (words_of words.now) place.old ≢ Sign.Eof }
-        ensures gives { Gives (spec.else_by (spec.parts_within self.now.room) at e a Sign.Else (words_of words.now) place.old) result place.new }
-    {
-        let first = Boxed::new(self.alloc, a.tree)?;
-        if a.waits {
-            return Ok(built(at, StmtForm::If(e, first, None), true));
-        }
-        skip(words, place);
-        let b = self.inner(words, place)?;
-        let second = Boxed::new(self.alloc, b.tree)?;
-        Ok(built(at, StmtForm::If(e, first, Some(second)), b.waits))
-    }
-
-    #[tactic(auto, unfolding(crate::specs::Statements::if_statement))]
-    fn if_statement(&self, words: &[Word], place: &mut Place, at: u32) -> Result<Built, SyntaxStop>
-        requires below { Holds self.now.room (F.pre self.now.statement) (F.post self.now.statement) }
-        requires short { length words.now ≤ 1048576 }
-        requires seen { input.look_at (words_of words.now) place.old ≢ Sign.Eof }
-        ensures gives { Gives (spec.if_statement (spec.parts_within self.now.room) at (words_of words.now) place.old) result place.new }
-    {
-        skip(words, place);
-        let e = self.condition(words, place)?;
-        let a = self.inner(words, place)?;
-        self.behind_then(words, place, at, e, a)
-    }
-
-    #[tactic(auto, unfolding(crate::specs::Statements::switch_statement))]
-    fn switch_statement(
-        &self,
-        words: &[Word],
-        place: &mut Place,
-        at: u32,
-    ) -> Result<Built, SyntaxStop>
-        requires below { Holds self.now.room (F.pre self.now.statement) (F.post self.now.statement) }
-        requires short { length words.now ≤ 1048576 }
-        requires seen { input.look_at (words_of words.now) place.old ≢ Sign.Eof }
-        ensures gives { Gives (spec.switch_statement (spec.parts_within self.now.room) at (words_of words.now) place.old) result place.new }
-    {
-        skip(words, place);
-        let e = self.condition(words, place)?;
-        let a = self.inner(words, place)?;
-        let body = Boxed::new(self.alloc, a.tree)?;
-        Ok(built(at, StmtForm::Switch(e, body), a.waits))
-    }
-
-    #[tactic(auto, unfolding(crate::specs::Statements::while_statement))]
-    fn while_statement(
-        &self,
-        words: &[Word],
-        place: &mut Place,
-        at: u32,
-    ) -> Result<Built, SyntaxStop>
-        requires below { Holds self.now.room (F.pre self.now.statement) (F.post self.now.statement) }
-        requires short { length words.now ≤ 1048576 }
-        requires seen { input.look_at (words_of words.now) place.old ≢ Sign.Eof }
-        ensures gives { Gives (spec.while_statement (spec.parts_within self.now.room) at (words_of words.now) place.old) result place.new }
-    {
-        skip(words, place);
-        let e = self.condition(words, place)?;
-        let a = self.inner(words, place)?;
-        let body = Boxed::new(self.alloc, a.tree)?;
-        Ok(built(at, StmtForm::While(e, body), a.waits))
-    }
-
-    #[tactic(auto, unfolding(crate::specs::Statements::do_statement))]
-    fn do_statement(&self, words: &[Word], place: &mut Place, at: u32) -> Result<Built, SyntaxStop>
-        requires below { Holds self.now.room (F.pre self.now.statement) (F.post self.now.statement) }
-        requires short { length words.now ≤ 1048576 }
-        requires seen { input.look_at (words_of words.now) place.old ≢ Sign.Eof }
-        ensures gives { Gives (spec.do_statement (spec.parts_within self.now.room) at (words_of words.now) place.old) result place.new }
-    {
-        skip(words, place);
-        let a = self.inner(words, place)?;
-        while_word(words, place)?;
-        let e = self.condition(words, place)?;
-        semicolon(words, place)?;
-        let body = Boxed::new(self.alloc, a.tree)?;
-        Ok(built(at, StmtForm::Do(body, e), false))
-    }
-
-    #[tactic(auto, unfolding(crate::specs::Statements::value_start))]
-    fn value_start(&self, words: &[Word], place: &mut Place) -> Result<ForStart, SyntaxStop>
-        requires below { Holds self.now.room (F.pre self.now.statement) (F.post self.now.statement) }
-        requires short { length words.now ≤ 1048576 }
-        ensures gives { Gives (spec.value_start (spec.parts_within self.now.room) (words_of words.now) place.old) result place.new }
-    {
-        let e = self.expr(words, place, 1)?;
-        semicolon(words, place)?;
-        Ok(ForStart::Value(e.tree))
-    }
-
-    fn for_start(&self, words: &[Word], place: &mut Place) -> Result<ForStart, SyntaxStop>
-        requires below { Holds self.now.room (F.pre self.now.statement) (F.post self.now.statement) }
-        requires short { length words.now ≤ 1048576 }
-        ensures gives { Gives (parser.look (spec.start_by (spec.parts_within self.now.room)) (words_of words.now) place.old) result place.new }
-    {
-        let found = sign(words, place);
-        if is_semicolon(found) {
-            skip(words, place);
-            return Ok(ForStart::Nothing);
-        }
-        if specifies(false, found) {
-            let declaration = self.declaration(words, place)?;
-            return Ok(ForStart::Declaration(declaration));
-        }
-        self.value_start(words, place)
-    }
-
-    #[tactic(auto, unfolding(crate::specs::Statements::for_head))]
-    fn for_head(&self, words: &[Word], place: &mut Place) -> Result<ForHead, SyntaxStop>
-        requires below { Holds self.now.room (F.pre self.now.statement) (F.post self.now.statement) }
-        requires short { length words.now ≤ 1048576 }
-        ensures gives { Gives (spec.for_head (spec.parts_within self.now.room) (words_of words.now) place.old) result place.new }
-    {
-        open_paren(words, place)?;
-        let start = self.for_start(words, place)?;
-        let test = self.optional_before_semicolon(words, place)?;
-        let last = self.optional_before_paren(words, place)?;
-        Ok(ForHead { start, test, last })
-    }
-
-    #[tactic(auto, unfolding(crate::specs::Statements::for_statement))]
-    fn for_statement(&self, words: &[Word], place: &mut Place, at: u32) -> Result<Built, SyntaxStop>
-        requires below { Holds self.now.room (F.pre self.now.statement) (F.post self.now.statement) }
-        requires short { length words.now ≤ 1048576 }
-        requires seen { input.look_at (words_of words.now) place.old ≢ Sign.Eof }
-        ensures gives { Gives (spec.for_statement (spec.parts_within self.now.room) at (words_of words.now) place.old) result place.new }
-    {
-        skip(words, place);
-        let head = self.for_head(words, place)?;
-        let a = self.inner(words, place)?;
-        let body = Boxed::new(self.alloc, a.tree)?;
-        let form = StmtForm::For(head.start, head.test, head.last, body);
-        Ok(built(at, form, a.waits))
     }
 
     #[tactic(auto, unfolding(crate::specs::Statements::goto_statement))]

@@ -116,7 +116,11 @@ fn left_out_constructs(rt: HostRuntime) -> Result<(), AllocError> {
 
 #[test]
 fn statements_and_scopes(rt: HostRuntime) -> Result<(), AllocError> {
-    let rows: [(&str, &str); 16] = [
+    let rows: [(&str, &str); 17] = [
+        (
+            "typedef int T; struct T { int T; }; struct T s; enum U { A = sizeof s.T }; T y;",
+            "tree",
+        ),
         (
             "void f(void) { if (1) if (2) ; else ; else ; else ; }",
             "1 at 19",
@@ -309,6 +313,9 @@ fn parts(alloc: Global, e: &Ex) -> Result<String, AllocError> {
 /// The expression of the first statement of the last function in a file.
 fn grouping(alloc: Global, file: &str) -> Result<String, AllocError> {
     let file = file.as_bytes();
+    if file.len() > 1048576 {
+        return format!(in alloc; "long");
+    }
     let Ok(tokens) = tokens(alloc, file) else {
         return format!(in alloc; "lex");
     };

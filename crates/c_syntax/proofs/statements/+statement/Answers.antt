@@ -1,4 +1,4 @@
-use Rattle.std.proofs.Common.{ℕ, Option, Some, None, sym, subst, arith}
+use Rattle.std.proofs.Common.{ℕ, Option, sym, subst, arith}
 use Rattle.c_syntax.specs.Statements.{nested}
 use Rattle.c_syntax.specs.Below.{Finds}
 use Rattle.c_syntax.specs.Words.{words_of}

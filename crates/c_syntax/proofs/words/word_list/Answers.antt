@@ -1,9 +1,9 @@
-use Rattle.std.proofs.Common.{◌≡◌, ℕ, ◌+◌, ◌<◌, ◌≤◌, cond, List, [], ◌∷◌, ◌++◌, length, map, take, get_or, Some, bytes_eq, sym, ap, ◌∙◌, rules, arith}
+use Rattle.std.proofs.Common.{◌≡◌, ℕ, ◌<◌, cond, List, [], ◌∷◌, ◌++◌, length, map, take, get_or, Some, bytes_eq, sym, ap, ◌∙◌, rules, arith}
 use Rattle.std.proofs.lemmas.List.{get_or_default, map_more, length-map, length-take-le}
 use Rattle.c_lex.specs.declared.token.Token.{Token}
 use Rattle.c_lex.specs.declared.token.TokenKind.TheVariants as kind
-use Rattle.c_syntax.specs.Input.{Sign, Word}
-use Rattle.c_syntax.specs.Words.{text_of, kind_sign, is_name_kind, number_of, word_of}
+use Rattle.c_syntax.specs.Input.{Word}
+use Rattle.c_syntax.specs.Words.{text_of, kind_sign, is_name_kind, word_of}
 use Rattle.c_syntax.specs.Numbers.{held, numbered}
 use Rattle.c_syntax.proofs.Seen.{given_number, held_on, same_word, word}
 use Rattle.c_syntax.proofs.words.word_list.Goals as goal

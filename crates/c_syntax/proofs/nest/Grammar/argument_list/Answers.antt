@@ -1,4 +1,4 @@
-use Rattle.std.proofs.Common.{rules, arith, ◌≡◌, ◌+◌, ◌-◌, ◌∙◌, ap, sym, List, Ok, false}
+use Rattle.std.proofs.Common.{rules, arith, ◌≡◌, ◌-◌, ◌∙◌, false}
 use Rattle.std.proofs.lemmas.Grind.{common_steps}
 use Rattle.c_syntax.specs.Specifiers.{is_comma}
 use Rattle.c_syntax.specs.Expressions.{argument}
@@ -6,8 +6,7 @@ use Rattle.c_syntax.specs.Parser.{skip, ◌>>◌}
 use Rattle.c_syntax.specs.Input.{look_at}
 use Rattle.c_syntax.specs.Levels.{nest}
 use Rattle.c_syntax.specs.Words.{words_of}
-use Rattle.c_syntax.specs.Gives.{Gives, Refuses}
-use Rattle.c_syntax.proofs.Lists.{left, add_tree, next, stops, ended, over, begun_separated, begun_separated_stops}
+use Rattle.c_syntax.proofs.Lists.{add_tree, next, stops, ended, over, begun_separated, begun_separated_stops}
 use Rattle.c_syntax.proofs.nest.Grammar.argument_list.Goals as goal
 use Rattle.c_syntax.proofs.nest.Grammar.argument_list.Goals.{else-loop-turn-test, then-loop-turn-test+then-not-is_comma}
 

@@ -1,4 +1,4 @@
-use Rattle.std.proofs.Common.{rules, arith, suc, ap, ◌≡◌, ◌+◌, ◌-◌, ℕ}
+use Rattle.std.proofs.Common.{rules, arith, suc, ap, ◌≡◌, ◌+◌, ◌-◌}
 use Rattle.std.proofs.lemmas.Grind.{common_steps}
 use Rattle.std.proofs.lemmas.Bool.Decides.{nat_tests}
 use Rattle.c_syntax.specs.Levels.{nest}

@@ -1,6 +1,5 @@
-use Rattle.std.proofs.Common.{rules, arith, ◌≡◌, ◌-◌, ◌∙◌, ap, sym, true, false, refl}
+use Rattle.std.proofs.Common.{rules, arith}
 use Rattle.std.proofs.lemmas.Grind.{common_steps}
-use Rattle.c_syntax.specs.Input.{look_at, step}
 use Rattle.c_syntax.specs.Levels.{nest}
 use Rattle.c_syntax.specs.Specifiers.{is_comma, is_close_brace, enumerator}
 use Rattle.c_syntax.specs.Words.{words_of}

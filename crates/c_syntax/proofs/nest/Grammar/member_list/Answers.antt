@@ -1,12 +1,11 @@
-use Rattle.std.proofs.Common.{rules, arith, ◌≡◌, ◌+◌, ◌-◌, ◌∙◌, ap, sym, List, Ok, false}
+use Rattle.std.proofs.Common.{rules, arith, ◌≡◌, ◌-◌, ◌∙◌, false}
 use Rattle.std.proofs.lemmas.Grind.{common_steps}
 use Rattle.c_syntax.specs.Specifiers.{is_comma, member}
 use Rattle.c_syntax.specs.Parser.{skip, ◌>>◌}
 use Rattle.c_syntax.specs.Input.{look_at}
 use Rattle.c_syntax.specs.Levels.{nest}
 use Rattle.c_syntax.specs.Words.{words_of}
-use Rattle.c_syntax.specs.Gives.{Gives, Refuses}
-use Rattle.c_syntax.proofs.Lists.{left, add_tree, next, stops, ended, over, begun_separated, begun_separated_stops}
+use Rattle.c_syntax.proofs.Lists.{add_tree, next, stops, ended, over, begun_separated, begun_separated_stops}
 use Rattle.c_syntax.proofs.nest.Grammar.member_list.Goals as goal
 use Rattle.c_syntax.proofs.nest.Grammar.member_list.Goals.{else-loop-turn-test, then-loop-turn-test+then-not-is_comma}
 

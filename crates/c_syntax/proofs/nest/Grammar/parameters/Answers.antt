@@ -1,9 +1,7 @@
-use Rattle.std.proofs.Common.{rules, arith, ◌≡◌, ◌-◌, ◌∙◌, ap, sym, true, false, refl}
+use Rattle.std.proofs.Common.{rules, arith, ◌-◌, refl}
 use Rattle.std.proofs.lemmas.Grind.{common_steps}
-use Rattle.c_syntax.specs.Input.{look_at, step}
 use Rattle.c_syntax.specs.Levels.{nest}
-use Rattle.c_syntax.specs.Specifiers.{is_comma}
-use Rattle.c_syntax.specs.Declarators.{is_ellipsis, parameter, parameters, parameters_from}
+use Rattle.c_syntax.specs.Declarators.{parameters, parameters_from}
 use Rattle.c_syntax.specs.Words.{words_of}
 use Rattle.c_syntax.proofs.ParameterLists.{parameters_begun, parameters_next, parameters_stops, parameters_dots, parameters_last, parameters_over}
 use Rattle.c_syntax.proofs.nest.Grammar.parameters.Goals as goal

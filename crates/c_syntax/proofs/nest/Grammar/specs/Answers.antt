@@ -1,10 +1,9 @@
-use Rattle.std.proofs.Common.{rules, arith, ◌≡◌, ◌-◌, ◌∙◌, ap, sym, false, refl}
+use Rattle.std.proofs.Common.{rules, arith, ◌≡◌, ◌-◌, ◌∙◌, sym, false, refl}
 use Rattle.std.proofs.lemmas.Grind.{common_steps}
-use Rattle.c_syntax.specs.Input.{look_at}
 use Rattle.c_syntax.specs.Levels.{nest}
 use Rattle.c_syntax.specs.Specifiers.{allows, specs}
 use Rattle.c_syntax.specs.Words.{words_of}
-use Rattle.c_syntax.proofs.SpecifierLists.{specs_left, specs_next, specs_stops, specs_ended, specs_over}
+use Rattle.c_syntax.proofs.SpecifierLists.{specs_next, specs_stops, specs_ended, specs_over}
 use Rattle.c_syntax.proofs.nest.Grammar.specs.Goals as goal
 use Rattle.c_syntax.proofs.nest.Grammar.specs.Goals.{else-loop-turn-test, then-loop-turn-test+then-not-goes_on}
 

@@ -1,5 +1,4 @@
 use Rattle.std.proofs.Common.{sym, ap, ◌∙◌}
-use Rattle.std.specs.Prelude.{reverse}
 use Rattle.c_syntax.specs.Scope.{Names, is_type}
 use Rattle.c_syntax.proofs.Scopes.{reached, declared_last, popped}
 use Rattle.c_syntax.proofs.scope.Scope.declare.Goals as goal
