@@ -97,8 +97,8 @@ join_members a b v x y j uninit o = j.uninit ∙ or_true a.uninit b.uninit o
 join_members a b v x y j dangling o = j.dangling ∙ or_true a.dangling b.dangling o
 join_members a b v x y j (number z) o = subst (λ s. Has s z) (sym j.ints) (join-keeps a.ints b.ints x.ints y.ints z o)
 join_members a b v x y j (pointer base z) o =
-    combined_keep join_of a.ptrs.items b.ptrs.items v.ptrs.items x.ptrs y.ptrs j.ptrs base z
-    (λ h k. join-keeps (offsets_at a.ptrs.items base) (offsets_at b.ptrs.items base) (formed_of _ h) (formed_of _ k) z) o
+    combined_keep join_of a.ptrs b.ptrs v.ptrs x.ptrs y.ptrs j.ptrs base z
+    (λ h k. join-keeps (offsets_at a.ptrs base) (offsets_at b.ptrs base) (formed_of _ h) (formed_of _ k) z) o
 
 -- ---- widening
 
@@ -134,8 +134,8 @@ widening_members a b v thresholds width x y i j p q w dangling o = w.dangling �
 widening_members a b v thresholds width x y i j p q w (number z) o =
     subst (λ s. Has s z) (sym w.ints) (widen-keeps a.ints b.ints thresholds width x.ints y.ints p q z o)
 widening_members a b v thresholds width x y i j p q w (pointer base z) o =
-    combined_keep widened_offsets a.ptrs.items b.ptrs.items v.ptrs.items x.ptrs y.ptrs w.ptrs base z
-    (λ h k. widened_keep (offsets_at a.ptrs.items base) (offsets_at b.ptrs.items base) z h k (into a.ptrs.items i base) (into b.ptrs.items j base)) o
+    combined_keep widened_offsets a.ptrs b.ptrs v.ptrs x.ptrs y.ptrs w.ptrs base z
+    (λ h k. widened_keep (offsets_at a.ptrs base) (offsets_at b.ptrs base) z h k (into a.ptrs i base) (into b.ptrs j base)) o
   where
     into : (ps : List Pointer) → All (λ p. AreInObject p.1) ps → (base : ℕ) → AreInObject (offsets_at ps base)
     into [] all base = tt
@@ -165,15 +165,15 @@ included_at (p ∷ ps) qs base e = elim (same_or_not p.0 base) [
 
 pub included_members : (a b : Value) → IsWellFormedValue a → IsWellFormedValue b → value_included a b ≡ true → (m : Member) → HasMember a m → HasMember b m
 included_members a b x y e m h =
-    let u = implies a.uninit b.uninit in let d = implies a.dangling b.dangling in let i = included_of a.ints b.ints in let p = pointers_included a.ptrs.items b.ptrs.items in
+    let u = implies a.uninit b.uninit in let d = implies a.dangling b.dangling in let i = included_of a.ints b.ints in let p = pointers_included a.ptrs b.ptrs in
     by_part (and_left u d (and_left (u && d) i (and_left (u && d && i) p e))) (and_right u d (and_left (u && d) i (and_left (u && d && i) p e)))
     (and_right (u && d) i (and_left (u && d && i) p e)) (and_right (u && d && i) p e) m h
   where
-    by_part : implies a.uninit b.uninit ≡ true → implies a.dangling b.dangling ≡ true → included_of a.ints b.ints ≡ true → pointers_included a.ptrs.items b.ptrs.items ≡ true
+    by_part : implies a.uninit b.uninit ≡ true → implies a.dangling b.dangling ≡ true → included_of a.ints b.ints ≡ true → pointers_included a.ptrs b.ptrs ≡ true
         → (m : Member) → HasMember a m → HasMember b m
     by_part u d i p uninit h = implied a.uninit b.uninit u h
     by_part u d i p dangling h = implied a.dangling b.dangling d h
     by_part u d i p (number z) h = included-sound a.ints b.ints x.ints y.ints i z h
     by_part u d i p (pointer base z) h =
-        included-sound (offsets_at a.ptrs.items base) (offsets_at b.ptrs.items base) (offsets_formed a.ptrs.items base x.ptrs.each) (offsets_formed b.ptrs.items base y.ptrs.each)
-        (included_at a.ptrs.items b.ptrs.items base p) z h
+        included-sound (offsets_at a.ptrs base) (offsets_at b.ptrs base) (offsets_formed a.ptrs base x.ptrs.each) (offsets_formed b.ptrs base y.ptrs.each)
+        (included_at a.ptrs b.ptrs base p) z h

@@ -16,7 +16,7 @@ abbrev pub HasMember : Value → Member → Type 0
 HasMember v uninit = v.uninit ≡ true
 HasMember v dangling = v.dangling ≡ true
 HasMember v (number x) = Has v.ints x
-HasMember v (pointer base offset) = Has (offsets_at v.ptrs.items base) offset
+HasMember v (pointer base offset) = Has (offsets_at v.ptrs base) offset
 
 -- each member of one of both sides is a member of the join
 abbrev pub JoinKeeps : Type 0

@@ -2,7 +2,7 @@
 //! base with byte offsets.
 //!
 //! Each call equals its formula part by part (`specs/`), or answers that memory has run out. Stands
-//! on `ival`.
+//! on `ival`, and on the lists of `sqlite_items`.
 #![tactic(auto)]
 
 mod error;

@@ -9,6 +9,7 @@ ghost use Rattle.avalue.specs.Pointers as spec;
 
 use crate::error::Memory;
 use ival::Ival;
+use sqlite_items::Items;
 use std::alloc::Global;
 
 /// What the offsets of a base that both sides have become.
@@ -33,12 +34,12 @@ pub fn merge<R: Rule>(
     rule: &R,
     a: &[(u32, Ival)],
     b: &[(u32, Ival)],
-) -> Result<Vec<(u32, Ival)>, Memory>
+) -> Result<Items<(u32, Ival)>, Memory>
     requires left { spec.ArePointers a.now }
     requires right { spec.ArePointers b.now }
     requires left_fits { All (λ p. R.takes rule.now p.1) a.now }
     requires right_fits { All (λ p. R.takes rule.now p.1) b.now }
-    ensures combined { IfOk result (λ both. spec.AreCombined (R.of rule.now) a.now b.now both.items) }
+    ensures combined { IfOk result (λ both. spec.AreCombined (R.of rule.now) a.now b.now both) }
 {
     let mut both = Vec::new(alloc);
     let mut i = 0;
@@ -59,7 +60,7 @@ pub fn merge<R: Rule>(
     }
     both.extend_from_slice(&a[i..])?;
     both.extend_from_slice(&b[j..])?;
-    Ok(both)
+    Ok(Items::from_vec(both))
 }
 
 /// The offsets of a base; `Empty` where there are none.
@@ -103,10 +104,10 @@ pub fn without(
     alloc: Global,
     ptrs: &[(u32, Ival)],
     bases: &[u32],
-) -> Result<Vec<(u32, Ival)>, Memory>
-    ensures { IfOk result (λ kept. kept.items ≡ filter (λ p. not (spec.is_listed bases.now p)) ptrs.now) }
+) -> Result<Items<(u32, Ival)>, Memory>
+    ensures { IfOk result (λ kept. kept ≡ filter (λ p. not (spec.is_listed bases.now p)) ptrs.now) }
 {
-    let mut kept = Vec::new(alloc);
+    let mut kept = Items::new(alloc);
     for p in ptrs {
         if !is_listed(bases, p) {
             kept.push(*p)?;

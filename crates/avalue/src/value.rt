@@ -8,6 +8,8 @@ use crate::error::Memory;
 use crate::pointers::{has_listed, included, merge, without};
 use crate::rules::{Join, Widening};
 use ival::Ival;
+use sqlite_items::Items;
+use std::alloc::Global;
 
 /// What a cell may hold: nothing written yet, a pointer to an object that is gone, integers, and pointers.
 #[derive(Drop)]
@@ -17,25 +19,24 @@ pub struct Value {
     /// The null pointer is the integer 0.
     pub ints: Ival,
     /// By base, rising: the offsets in bytes, some for each.
-    pub ptrs: Vec<(u32, Ival)>,
+    pub ptrs: Items<(u32, Ival)>,
 }
 
 /// The places that a value points to: the null pointer, and bases with offsets in bytes.
 #[derive(Drop)]
 pub struct Location {
     pub null: bool,
-    pub places: Vec<(u32, Ival)>,
+    pub places: Items<(u32, Ival)>,
 }
 
 impl Value {
     /// The least value around both, part by part.
-    pub fn join(&self, b: &Value) -> Result<Value, Memory>
+    pub fn join(&self, alloc: Global, b: &Value) -> Result<Value, Memory>
         requires left { spec.IsWellFormedValue self.now }
         requires right { spec.IsWellFormedValue b.now }
         ensures value { IfOk result (spec.IsJoin self.now b.now) }
         ensures formed { IfOk result spec.IsWellFormedValue }
     {
-        let alloc = *self.ptrs.allocator();
         Ok(Value {
             uninit: self.uninit || b.uninit,
             dangling: self.dangling || b.dangling,
@@ -46,7 +47,13 @@ impl Value {
 
     /// A value around both that grows only so often: integers by thresholds and `width`, from 1 to 64 bits, and offsets
     /// that grow to all of the object in their class.
-    pub fn widen(&self, newer: &Value, thresholds: &[i128], width: u32) -> Result<Value, Memory>
+    pub fn widen(
+        &self,
+        alloc: Global,
+        newer: &Value,
+        thresholds: &[i128],
+        width: u32,
+    ) -> Result<Value, Memory>
         requires left { spec.IsWellFormedValue self.now }
         requires right { spec.IsWellFormedValue newer.now }
         requires ends { is_empty self.now.ints ≡ false → HasEnds self.now.ints }
@@ -57,7 +64,6 @@ impl Value {
         ensures value { IfOk result (spec.IsWidening self.now newer.now thresholds.now width) }
         ensures formed { IfOk result spec.IsWellFormedValue }
     {
-        let alloc = *self.ptrs.allocator();
         Ok(Value {
             uninit: self.uninit || newer.uninit,
             dangling: self.dangling || newer.dangling,
@@ -84,18 +90,18 @@ impl Value {
     }
 
     /// The places that it points to.
-    pub fn to_location(&self) -> Result<Location, Memory>
+    pub fn to_location(&self, alloc: Global) -> Result<Location, Memory>
         requires { spec.IsWellFormedValue self.now }
         ensures { IfOk result (spec.IsLocation self.now) }
     {
         Ok(Location {
             null: self.ints.has(0),
-            places: Vec::from_slice(*self.ptrs.allocator(), self.ptrs.as_slice())?,
+            places: Items::from_slice(alloc, self.ptrs.as_slice())?,
         })
     }
 
     /// Pointers to the listed bases dangle.
-    pub fn escape(&self, bases: &[u32]) -> Result<Value, Memory>
+    pub fn escape(&self, alloc: Global, bases: &[u32]) -> Result<Value, Memory>
         requires { spec.IsWellFormedValue self.now }
         ensures value { IfOk result (spec.IsEscape self.now bases.now) }
         ensures formed { IfOk result spec.IsWellFormedValue }
@@ -105,7 +111,7 @@ impl Value {
             uninit: self.uninit,
             dangling: self.dangling || has_listed(ptrs, bases),
             ints: self.ints,
-            ptrs: without(*self.ptrs.allocator(), ptrs, bases)?,
+            ptrs: without(alloc, ptrs, bases)?,
         })
     }
 }

@@ -35,8 +35,8 @@ heads-preserved g c = (
 
 pub returns : goal.returns
 returns g c = record {
-  combined = ended _ c.args.a.now c.args.b.now c.heads.both.items c.extend_from_slice-2.new.self.items c.heads.i c.heads.j c.requires.left c.requires.right c.heads.invariant.1
+  combined = ended _ c.args.a.now c.args.b.now c.heads.both.items c.from_vec.result c.heads.i c.heads.j c.requires.left c.requires.right c.heads.invariant.1
       (search rules) c.heads.invariant.0
-      (with_rests c.heads.both.items c.extend_from_slice.new.self.items c.extend_from_slice-2.new.self.items c.args.a.now c.args.b.now c.heads.i c.heads.j _ _
+      (c.from_vec.ensures ∙ with_rests c.heads.both.items c.extend_from_slice.new.self.items c.extend_from_slice-2.new.self.items c.args.a.now c.args.b.now c.heads.i c.heads.j _ _
       c.in_ok-extend_from_slice.ensures.items c.in_ok-extend_from_slice-2.ensures.items refl refl);
 }

@@ -5,4 +5,4 @@ use Rattle.avalue.specs.Pointers.{is_listed}
 use Rattle.avalue.proofs.pointers.without.Given as goal
 
 abbrev pub invariant-loop-p : goal.invariant-loop-p
-invariant-loop-p l = l.kept.items ≡ filter (λ p. not (is_listed l.bases p)) (take l.p-index l.ptrs)
+invariant-loop-p l = l.kept ≡ filter (λ p. not (is_listed l.bases p)) (take l.p-index l.ptrs)
