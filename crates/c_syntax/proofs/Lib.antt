@@ -1,9 +1,0 @@
-pub mod Bounds
-pub mod Turns
-pub mod Scopes
-pub mod Lists
-pub mod SpecifierLists
-pub mod ParameterLists
-pub mod Rows
-pub mod Seen
-pub mod Texts

@@ -2,13 +2,14 @@
 use Rattle.std.specs.Prelude.{ℕ, List, Option, Some, None, Result, length, ◌≤◌}
 use Rattle.std.specs.declared.alloc.Global.{Global}
 use denote.Ref.{Bor, MutBor}
-use Rattle.c_syntax.specs.declared.error.SyntaxStop.{SyntaxStop}
-use Rattle.c_syntax.specs.declared.word.Word.{Word}
-use Rattle.c_syntax.specs.declared.tree.Init.{Init}
-use Rattle.c_syntax.specs.declared.grown.Built.{Built}
-use Rattle.c_syntax.specs.Input.{State, Words}
-use Rattle.c_syntax.specs.Words.{words_of}
-use Rattle.c_syntax.specs.Gives.{Gives}
+use Rattle.c_input.specs.declared.error.SyntaxStop.{SyntaxStop}
+use Rattle.c_input.specs.declared.word.Word.{Word}
+use Rattle.c_tree.specs.declared.tree.Init.{Init}
+use Rattle.c_syntax.specs.declared.built.Built.{Built}
+use Rattle.c_input.specs.declared.word.Place.{Place as State}
+use Rattle.c_input.specs.Input.{Words}
+use Rattle.c_input.specs.Words.{words_of}
+use Rattle.c_input.specs.Gives.{Gives}
 use Rattle.c_syntax.specs.Initialisers.{init_within}
 use Rattle.c_syntax.specs.Statements.{nested}
 

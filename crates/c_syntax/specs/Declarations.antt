@@ -1,14 +1,17 @@
 -- Declarations (6.7).
 use Rattle.std.specs.Prelude.{ℕ, Bool, List, [], ◌∷◌, Option, Some, None, Ok}
-use Rattle.c_syntax.specs.declared.tree.InitPart.{InitPart}
-use Rattle.c_syntax.specs.declared.tree.Declaration.{Declaration}
-use Rattle.c_syntax.specs.declared.grown.Specs.{Specs}
-use Rattle.c_syntax.specs.declared.grown.Declares.{Declares}
-use Rattle.c_syntax.specs.declared.grown.Mode.TheVariants as mode
-use Rattle.c_syntax.specs.declared.word.Sign.TheVariants as sign
-use Rattle.c_syntax.specs.Input.{State, Sign, Names}
-use Rattle.c_syntax.specs.Parser.{Parser, ◌>>=◌, ◌>>◌, pure, look, here, skip, expect, many}
-use Rattle.c_syntax.specs.Specifiers.{is_comma, is_semicolon, declaration_specs, specs_after_name}
+use Rattle.c_tree.specs.declared.tree.InitPart.{InitPart}
+use Rattle.c_tree.specs.declared.tree.Declaration.{Declaration}
+use Rattle.c_expressions.specs.declared.grown.Specs.{Specs}
+use Rattle.c_expressions.specs.declared.grown.Declares.{Declares}
+use Rattle.c_expressions.specs.declared.grown.Mode.TheVariants as mode
+use Rattle.c_input.specs.declared.word.Sign.TheVariants as sign
+use Rattle.c_input.specs.declared.word.Place.{Place as State}
+use Rattle.c_input.specs.declared.word.Sign.{Sign}
+use Rattle.c_input.specs.Input.{Names}
+use Rattle.c_input.specs.Parser.{Parser, ◌>>=◌, ◌>>◌, pure, look, here, skip, expect, many}
+use Rattle.c_input.specs.Signs.{is_comma, is_semicolon}
+use Rattle.c_expressions.specs.Specifiers.{declaration_specs, specs_after_name}
 use Rattle.c_syntax.specs.Initialisers.{Inits}
 
 -- the names in scope behind a declarator, which may have none

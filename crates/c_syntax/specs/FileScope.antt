@@ -1,18 +1,20 @@
 -- External declarations (6.9), and the whole of a file.
 use Rattle.std.specs.Prelude.{ℕ, Bool, true, false, List, [], ◌++◌, Option, Some, None, Result, Ok, Err, ◌≡◌}
-use Rattle.c_syntax.specs.declared.tree.Unit.{Unit as Tree}
-use Rattle.c_syntax.specs.declared.tree.Item.{Item}
-use Rattle.c_syntax.specs.declared.tree.Item.TheVariants as item
-use Rattle.c_syntax.specs.declared.grown.Specs.{Specs}
-use Rattle.c_syntax.specs.declared.grown.Declares.{Declares}
-use Rattle.c_syntax.specs.declared.grown.Built.{Built}
-use Rattle.c_syntax.specs.declared.grown.Mode.TheVariants as mode
-use Rattle.c_syntax.specs.declared.word.Sign.TheVariants as sign
-use Rattle.c_syntax.specs.Input.{State, Sign, Names}
-use Rattle.c_syntax.specs.Parser.{Outcome, Parser, ◌>>=◌, ◌>>◌, pure, look, here, skip, scoped, many}
-use Rattle.c_syntax.specs.declared.error.SyntaxStop.{SyntaxStop}
-use Rattle.c_syntax.specs.Gives.{Refuses}
-use Rattle.c_syntax.specs.Specifiers.{declaration_specs}
+use Rattle.c_tree.specs.declared.tree.Unit.{Unit as Tree}
+use Rattle.c_tree.specs.declared.tree.Item.{Item}
+use Rattle.c_tree.specs.declared.tree.Item.TheVariants as item
+use Rattle.c_expressions.specs.declared.grown.Specs.{Specs}
+use Rattle.c_expressions.specs.declared.grown.Declares.{Declares}
+use Rattle.c_syntax.specs.declared.built.Built.{Built}
+use Rattle.c_expressions.specs.declared.grown.Mode.TheVariants as mode
+use Rattle.c_input.specs.declared.word.Sign.TheVariants as sign
+use Rattle.c_input.specs.declared.word.Place.{Place as State}
+use Rattle.c_input.specs.declared.word.Sign.{Sign}
+use Rattle.c_input.specs.Input.{Names}
+use Rattle.c_input.specs.Parser.{Outcome, Parser, ◌>>=◌, ◌>>◌, pure, look, here, skip, scoped, many}
+use Rattle.c_input.specs.declared.error.SyntaxStop.{SyntaxStop}
+use Rattle.c_input.specs.Gives.{Refuses}
+use Rattle.c_expressions.specs.Specifiers.{declaration_specs}
 use Rattle.c_syntax.specs.Declarations.{declare_name, init_by, parts_after}
 use Rattle.c_syntax.specs.Statements.{Parts, parts_within}
 

@@ -1,17 +1,17 @@
 -- Initialisers (6.7.9).
 use Rattle.std.specs.Prelude.{ℕ, zero, suc, Bool, true, List, Option, Some, None}
-use Rattle.c_syntax.specs.declared.tree.Init.{Init}
-use Rattle.c_syntax.specs.declared.tree.Init.TheVariants as init
-use Rattle.c_syntax.specs.declared.tree.Given.{Given, roll-Given}
-use Rattle.c_syntax.specs.declared.tree.Designator.{Designator}
-use Rattle.c_syntax.specs.declared.tree.Designator.TheVariants as designator
-use Rattle.c_syntax.specs.declared.word.Sign.TheVariants as sign
-use Rattle.c_syntax.specs.Input.{Sign, begins_expression}
-use Rattle.c_syntax.specs.Parser.{Parser, ◌>>=◌, ◌>>◌, pure, look, here, skip, refuse, left_out_here, no_room, expect, any_name, trailed}
-use Rattle.c_syntax.specs.Nest.{Nest}
-use Rattle.c_syntax.specs.Specifiers.{is_comma, is_close_brace}
-use Rattle.c_syntax.specs.Declarators.{is_close_bracket}
-use Rattle.c_syntax.specs.Levels.{nest}
+use Rattle.c_tree.specs.declared.tree.Init.{Init}
+use Rattle.c_tree.specs.declared.tree.Init.TheVariants as init
+use Rattle.c_tree.specs.declared.tree.Given.{Given, roll-Given}
+use Rattle.c_tree.specs.declared.tree.Designator.{Designator}
+use Rattle.c_tree.specs.declared.tree.Designator.TheVariants as designator
+use Rattle.c_input.specs.declared.word.Sign.TheVariants as sign
+use Rattle.c_input.specs.declared.word.Sign.{Sign}
+use Rattle.c_input.specs.Input.{begins_expression}
+use Rattle.c_input.specs.Parser.{Parser, ◌>>=◌, ◌>>◌, pure, look, here, skip, refuse, left_out_here, no_room, expect, any_name, trailed}
+use Rattle.c_input.specs.Signs.{is_comma, is_close_brace, is_close_bracket}
+use Rattle.c_expressions.specs.Nest.{Nest}
+use Rattle.c_expressions.specs.Levels.{nest}
 
 -- what an initialiser holds, one level of room below
 pub record Inits : Type 0 where

@@ -1,28 +1,23 @@
 -- Statements and blocks (6.8).
 use Rattle.std.specs.Prelude.{ℕ, zero, suc, Bool, true, false, List, Option, Some, None}
-use Rattle.c_syntax.specs.declared.tree.Ex.{Ex}
-use Rattle.c_syntax.specs.declared.tree.Stmt.{Stmt, roll-Stmt}
-use Rattle.c_syntax.specs.declared.tree.StmtForm.{StmtForm}
-use Rattle.c_syntax.specs.declared.tree.StmtForm.TheVariants as form
-use Rattle.c_syntax.specs.declared.tree.BlockItem.{BlockItem}
-use Rattle.c_syntax.specs.declared.tree.BlockItem.TheVariants as item
-use Rattle.c_syntax.specs.declared.tree.ForStart.{ForStart}
-use Rattle.c_syntax.specs.declared.tree.ForStart.TheVariants as start
-use Rattle.c_syntax.specs.declared.grown.Grown.{Grown}
-use Rattle.c_syntax.specs.declared.grown.Built.{Built}
+use Rattle.c_tree.specs.declared.tree.Ex.{Ex}
+use Rattle.c_tree.specs.declared.tree.Stmt.{Stmt, roll-Stmt}
+use Rattle.c_tree.specs.declared.tree.StmtForm.{StmtForm}
+use Rattle.c_tree.specs.declared.tree.StmtForm.TheVariants as form
+use Rattle.c_tree.specs.declared.tree.BlockItem.{BlockItem}
+use Rattle.c_tree.specs.declared.tree.BlockItem.TheVariants as item
+use Rattle.c_tree.specs.declared.tree.ForStart.{ForStart}
+use Rattle.c_tree.specs.declared.tree.ForStart.TheVariants as start
+use Rattle.c_expressions.specs.declared.grown.Grown.{Grown}
+use Rattle.c_syntax.specs.declared.built.Built.{Built}
 use Rattle.c_syntax.specs.declared.branches.ForHead.{ForHead}
-use Rattle.c_syntax.specs.declared.word.Sign.TheVariants as sign
-use Rattle.c_syntax.specs.Input.{Sign, specifies, begins_expression}
-use Rattle.c_syntax.specs.Parser.{Parser, ◌>>=◌, ◌>>◌, pure, look, here, skip, refuse, left_out_here, no_room, too_deep_here, if_so, expect, any_name, scoped, many}
-use Rattle.c_syntax.specs.Specifiers.{is_semicolon, is_close_brace, is_no_close_brace}
-use Rattle.c_syntax.specs.Declarators.{is_close_paren}
-use Rattle.c_syntax.specs.Expressions.{is_colon}
+use Rattle.c_input.specs.declared.word.Sign.TheVariants as sign
+use Rattle.c_input.specs.declared.word.Sign.{Sign}
+use Rattle.c_input.specs.Input.{specifies, begins_expression}
+use Rattle.c_input.specs.Parser.{Parser, ◌>>=◌, ◌>>◌, pure, look, here, skip, refuse, left_out_here, no_room, too_deep_here, if_so, expect, any_name, scoped, many}
+use Rattle.c_input.specs.Signs.{is_semicolon, is_close_brace, is_no_close_brace, is_open_paren, is_close_paren, is_colon, is_while}
 use Rattle.c_syntax.specs.Initialisers.{Inits, inits_within}
 use Rattle.c_syntax.specs.Declarations.{declaration, declaration_after_name}
-
-abbrev pub is_open_paren : Sign → Bool
-is_open_paren sign.OpenParen = true
-is_open_paren _ = false
 
 -- compound, selection and iteration statements (6.8.2p1, 6.8.4p3, 6.8.5p5)
 abbrev pub has_scope : Sign → Bool
@@ -44,10 +39,6 @@ is_jump _ = false
 abbrev pub is_type_name : Sign → Bool
 is_type_name sign.TypeName = true
 is_type_name _ = false
-
-abbrev pub is_while : Sign → Bool
-is_while sign.While = true
-is_while _ = false
 
 abbrev pub statement_node : ℕ → StmtForm → Stmt
 statement_node at f = roll-Stmt (record { at = at; form = f })

@@ -2,23 +2,20 @@
 
 ghost use Rattle.std.specs.Prelude.{◌≡◌, ◌≢◌, ◌≤◌, length};
 ghost use Rattle.c_syntax.specs.Statements as spec;
-ghost use Rattle.c_syntax.specs.Specifiers as lists;
-ghost use Rattle.c_syntax.specs.Declarators as brackets;
-ghost use Rattle.c_syntax.specs.Input as input;
-ghost use Rattle.c_syntax.specs.Parser as parser;
-ghost use Rattle.c_syntax.specs.Words.{words_of};
-ghost use Rattle.c_syntax.specs.Gives.{Gives};
+ghost use Rattle.c_input.specs.Input as input;
+ghost use Rattle.c_input.specs.Parser as parser;
+ghost use Rattle.c_input.specs.Signs as signs;
+ghost use Rattle.c_input.specs.Words.{words_of};
+ghost use Rattle.c_input.specs.Gives.{Gives};
 ghost use Rattle.c_syntax.specs.Below.{Holds};
 
-use crate::error::SyntaxStop;
-use crate::grown::Built;
-use crate::input::{
-    close_paren, is_close_paren, is_semicolon, open_paren, semicolon, sign, skip, specifies,
-    while_word,
-};
+use crate::built::Built;
 use crate::statements::{Statements, built};
-use crate::tree::{Ex, ForStart, StmtForm};
-use crate::word::{Place, Sign, Word};
+use c_input::{
+    Place, Sign, SyntaxStop, Word, close_paren, is_close_paren, is_semicolon, open_paren,
+    semicolon, sign, skip, specifies, while_word,
+};
+use c_tree::{Ex, ForStart, StmtForm};
 use sqlite_items::Boxed;
 use std::alloc::Global;
 
@@ -71,7 +68,7 @@ impl<F: Fn(Global, &[Word], &mut Place, u32, Option<u32>) -> Result<Built, Synta
     ) -> Result<Option<Ex>, SyntaxStop>
         requires below { Holds self.now.room (F.pre self.now.statement) (F.post self.now.statement) }
         requires short { length words.now ≤ 1048576 }
-        ensures gives { Gives (spec.optional_before (spec.parts_within self.now.room) lists.is_semicolon (words_of words.now) place.old) result place.new }
+        ensures gives { Gives (spec.optional_before (spec.parts_within self.now.room) signs.is_semicolon (words_of words.now) place.old) result place.new }
     {
         let ends = is_semicolon(sign(words, place));
         let e = self.optional(words, place, ends)?;
@@ -87,7 +84,7 @@ impl<F: Fn(Global, &[Word], &mut Place, u32, Option<u32>) -> Result<Built, Synta
     ) -> Result<Option<Ex>, SyntaxStop>
         requires below { Holds self.now.room (F.pre self.now.statement) (F.post self.now.statement) }
         requires short { length words.now ≤ 1048576 }
-        ensures gives { Gives (spec.optional_before (spec.parts_within self.now.room) brackets.is_close_paren (words_of words.now) place.old) result place.new }
+        ensures gives { Gives (spec.optional_before (spec.parts_within self.now.room) signs.is_close_paren (words_of words.now) place.old) result place.new }
     {
         let ends = is_close_paren(sign(words, place));
         let e = self.optional(words, place, ends)?;

@@ -2,21 +2,17 @@
 
 ghost use Rattle.std.specs.Prelude.{◌≡◌, ◌≢◌, ◌≤◌, length, OnOk, true};
 ghost use Rattle.c_syntax.specs.Declarations as spec;
-ghost use Rattle.c_syntax.specs.Specifiers as lists;
-ghost use Rattle.c_syntax.specs.Input as input;
-ghost use Rattle.c_syntax.specs.Parser as parser;
+ghost use Rattle.c_input.specs.Input as input;
+ghost use Rattle.c_input.specs.Parser as parser;
 ghost use Rattle.c_syntax.specs.Initialisers.{inits_within};
-ghost use Rattle.c_syntax.specs.Words.{words_of};
-ghost use Rattle.c_syntax.specs.Gives.{Gives};
+ghost use Rattle.c_input.specs.Signs as signs;
+ghost use Rattle.c_input.specs.Words.{words_of};
+ghost use Rattle.c_input.specs.Gives.{Gives};
 
-use crate::error::SyntaxStop;
-use crate::grown::{Declares, Specs};
 use crate::initialisers::init;
-use crate::input::{is_comma, semicolon, sign, skip};
-use crate::nest::MOST_WORDS;
-use crate::nodes::{declaration_specs, declarator, specs_after_name};
-use crate::tree::{Declaration, InitPart};
-use crate::word::{Place, Sign, Word};
+use c_expressions::{Declares, Specs, declaration_specs, declarator, specs_after_name};
+use c_input::{MOST_WORDS, Place, Sign, SyntaxStop, Word, is_comma, semicolon, sign, skip};
+use c_tree::{Declaration, InitPart};
 use sqlite_items::Items;
 use std::alloc::{AllocError, Global};
 
@@ -110,7 +106,7 @@ impl Declarations {
     ) -> Result<InitPart, SyntaxStop>
         requires short { length words.now ≤ 1048576 }
         requires small { self.now.room ≤ 200 }
-        requires seen { lists.is_comma (input.look_at (words_of words.now) place.old) ≡ true }
+        requires seen { signs.is_comma (input.look_at (words_of words.now) place.old) ≡ true }
         ensures gives { Gives (spec.next_part (inits_within self.now.room) is_typedef (words_of words.now) place.old) result place.new }
     {
         skip(words, place);

@@ -3,20 +3,16 @@
 ghost use Rattle.std.specs.Prelude.{◌≡◌, ◌≢◌, ◌≤◌, length, OnOk};
 ghost use Rattle.c_syntax.specs.FileScope as spec;
 ghost use Rattle.c_syntax.specs.Statements.{parts_within};
-ghost use Rattle.c_syntax.specs.Input as input;
-ghost use Rattle.c_syntax.specs.Parser as parser;
-ghost use Rattle.c_syntax.specs.Words.{words_of};
-ghost use Rattle.c_syntax.specs.Gives.{Gives};
+ghost use Rattle.c_input.specs.Parser as parser;
+ghost use Rattle.c_input.specs.Words.{words_of};
+ghost use Rattle.c_input.specs.Gives.{Gives};
 
+use crate::built::Built;
 use crate::declarations::{Declarations, declare_name};
-use crate::error::SyntaxStop;
-use crate::grown::{Built, Declares, Specs};
-use crate::input::{sign, skip};
-use crate::nest::MOST_WORDS;
-use crate::nodes::{declaration_specs, declarator};
 use crate::statements::statement;
-use crate::tree::{Declaration, Item, Unit};
-use crate::word::{Place, Sign, Word};
+use c_expressions::{Declares, Specs, declaration_specs, declarator};
+use c_input::{MOST_WORDS, Place, Sign, SyntaxStop, Word, sign, skip};
+use c_tree::{Declaration, Item, Unit};
 use sqlite_items::Items;
 use std::alloc::{AllocError, Global};
 
@@ -44,7 +40,7 @@ fn declare_params(place: &mut Place, params: Option<Items<(u32, bool)>>) -> Resu
 }
 
 /// The body of a definition. Its parameters have the scope of the body (C11 6.2.1p4).
-#[tactic(auto, unfolding(crate::specs::FileScope::definition_body, crate::specs::Parser::scoped))]
+#[tactic(auto, unfolding(crate::specs::FileScope::definition_body, c_input::specs::Parser::scoped))]
 fn definition_body(
     alloc: Global,
     words: &[Word],

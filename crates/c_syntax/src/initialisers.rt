@@ -2,26 +2,23 @@
 
 ghost use Rattle.std.specs.Prelude.{◌≡◌, ◌≢◌, ◌≤◌, length};
 ghost use Rattle.c_syntax.specs.Initialisers as spec;
-ghost use Rattle.c_syntax.specs.Input as input;
-ghost use Rattle.c_syntax.specs.Parser as parser;
-ghost use Rattle.c_syntax.specs.Words.{words_of};
-ghost use Rattle.c_syntax.specs.Gives.{Gives, Refuses};
+ghost use Rattle.c_input.specs.Input as input;
+ghost use Rattle.c_input.specs.Parser as parser;
+ghost use Rattle.c_input.specs.Words.{words_of};
+ghost use Rattle.c_input.specs.Gives.{Gives, Refuses};
 ghost use Rattle.c_syntax.specs.Below.{Initialises};
 
-use crate::error::SyntaxStop;
-use crate::input::{
-    any_name, begins_expression, close_brace, close_bracket, is_close_brace, is_comma, left_out,
-    no_room, refuse, sign, skip,
+use c_expressions::expr;
+use c_input::{
+    MOST_WORDS, Place, Sign, SyntaxStop, Word, any_name, begins_expression, close_brace,
+    close_bracket, is_close_brace, is_comma, left_out, no_room, refuse, sign, skip,
 };
-use crate::nest::MOST_WORDS;
-use crate::nodes::expr;
-use crate::tree::{Designator, Given, Init};
-use crate::word::{Place, Sign, Word};
+use c_tree::{Designator, Given, Init};
 use sqlite_items::Items;
 use std::alloc::Global;
 
 /// Behind a designator. A nested one is left out at its second designator.
-#[tactic(auto, unfolding(crate::specs::Parser::refuse, crate::specs::Parser::left_out_here))]
+#[tactic(auto, unfolding(c_input::specs::Parser::refuse, c_input::specs::Parser::left_out_here))]
 fn designated(
     words: &[Word],
     place: &mut Place,
@@ -163,7 +160,7 @@ fn begins_initialiser(sign: Sign) -> bool
     }
 }
 
-#[tactic(auto, unfolding(crate::specs::Initialisers::init_within, crate::specs::Parser::no_room))]
+#[tactic(auto, unfolding(crate::specs::Initialisers::init_within, c_input::specs::Parser::no_room))]
 pub fn nothing(words: &[Word], place: &Place) -> SyntaxStop
     ensures { Refuses (spec.init_within 0 (words_of words.now) place.now) result }
 {

@@ -4,25 +4,21 @@ ghost use Rattle.std.specs.Prelude.{◌≡◌, ◌≢◌, ◌≤◌, length, Err
 ghost use Rattle.std.specs.Bool.{OnTrue};
 ghost use Rattle.c_syntax.specs.Statements as spec;
 ghost use Rattle.c_syntax.specs.Declarations.{declaration};
-ghost use Rattle.c_syntax.specs.Specifiers as lists;
-ghost use Rattle.c_syntax.specs.Declarators as brackets;
-ghost use Rattle.c_syntax.specs.Input as input;
-ghost use Rattle.c_syntax.specs.Parser as parser;
-ghost use Rattle.c_syntax.specs.Words.{words_of};
-ghost use Rattle.c_syntax.specs.Gives.{Gives, Refuses};
+ghost use Rattle.c_input.specs.Input as input;
+ghost use Rattle.c_input.specs.Parser as parser;
+ghost use Rattle.c_input.specs.Signs as signs;
+ghost use Rattle.c_input.specs.Words.{words_of};
+ghost use Rattle.c_input.specs.Gives.{Gives, Refuses};
 ghost use Rattle.c_syntax.specs.Below.{Holds, Finds};
 
+use crate::built::Built;
 use crate::declarations::Declarations;
-use crate::error::SyntaxStop;
-use crate::grown::{Built, Grown};
-use crate::input::{
-    any_name, begins_expression, close_brace, close_paren, colon, is_close_paren, is_semicolon,
-    left_out, no_room, open_paren, refuse, semicolon, sign, skip, specifies, too_deep, while_word,
+use c_expressions::{Grown, expr, named};
+use c_input::{
+    MOST_WORDS, Place, Sign, SyntaxStop, Word, any_name, begins_expression, close_brace, colon,
+    left_out, no_room, refuse, semicolon, sign, skip, specifies, too_deep,
 };
-use crate::nest::MOST_WORDS;
-use crate::nodes::{expr, named};
-use crate::tree::{BlockItem, Declaration, Ex, ForStart, Stmt, StmtForm};
-use crate::word::{Place, Sign, Word};
+use c_tree::{BlockItem, Declaration, Stmt, StmtForm};
 use sqlite_items::{Boxed, Items};
 use std::alloc::Global;
 
@@ -67,7 +63,7 @@ fn is_jump(sign: Sign) -> bool
 
 /// Whether a block goes on.
 fn is_no_close_brace(sign: Sign) -> bool
-    ensures { result ≡ lists.is_no_close_brace sign }
+    ensures { result ≡ signs.is_no_close_brace sign }
 {
     match sign {
         Sign::CloseBrace => false,
@@ -106,7 +102,7 @@ impl<F: Fn(Global, &[Word], &mut Place, u32, Option<u32>) -> Result<Built, Synta
     }
 
     /// A substatement, which is a block (C11 6.8.4p3, 6.8.5p5).
-    #[tactic(auto, unfolding(crate::specs::Parser::scoped))]
+    #[tactic(auto, unfolding(c_input::specs::Parser::scoped))]
     pub fn inner(&self, words: &[Word], place: &mut Place) -> Result<Built, SyntaxStop>
         requires below { Holds self.now.room (F.pre self.now.statement) (F.post self.now.statement) }
         requires short { length words.now ≤ 1048576 }
@@ -208,7 +204,7 @@ impl<F: Fn(Global, &[Word], &mut Place, u32, Option<u32>) -> Result<Built, Synta
     }
 
     /// Behind the number of a case. A range is left out at its dots.
-    #[tactic(auto, unfolding(crate::specs::Parser::refuse, crate::specs::Parser::left_out_here))]
+    #[tactic(auto, unfolding(c_input::specs::Parser::refuse, c_input::specs::Parser::left_out_here))]
     fn behind_case(
         &self,
         words: &[Word],
@@ -487,7 +483,7 @@ impl<F: Fn(Global, &[Word], &mut Place, u32, Option<u32>) -> Result<Built, Synta
     }
 
     /// A statement with a scope of its own.
-    #[tactic(auto, unfolding(crate::specs::Parser::scoped))]
+    #[tactic(auto, unfolding(c_input::specs::Parser::scoped))]
     fn scoped(
         &self,
         words: &[Word],
@@ -606,7 +602,7 @@ fn begins_statement(sign: Sign) -> bool
 }
 
 /// The stop where no statement may begin any more.
-#[tactic(auto, unfolding(crate::specs::Statements::nested, crate::specs::Parser::no_room))]
+#[tactic(auto, unfolding(crate::specs::Statements::nested, c_input::specs::Parser::no_room))]
 fn no_statement(words: &[Word], place: &Place) -> SyntaxStop
     ensures { Refuses ((spec.nested 0).statement (words_of words.now) place.now) result }
 {
@@ -614,7 +610,7 @@ fn no_statement(words: &[Word], place: &Place) -> SyntaxStop
 }
 
 /// The same behind a label.
-#[tactic(auto, unfolding(crate::specs::Statements::nested, crate::specs::Parser::too_deep_here))]
+#[tactic(auto, unfolding(crate::specs::Statements::nested, c_input::specs::Parser::too_deep_here))]
 fn no_labelled(words: &[Word], place: &Place, at: u32) -> SyntaxStop
     ensures { Refuses ((spec.nested 0).labelled at (words_of words.now) place.now) result }
 {

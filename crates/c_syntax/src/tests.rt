@@ -1,7 +1,7 @@
-use crate::error::SyntaxStop;
 use crate::parse;
-use crate::tree::{BlockItem, Ex, ExForm, Item, StmtForm};
+use c_input::SyntaxStop;
 use c_lex::tokens;
+use c_tree::{BlockItem, Ex, ExForm, Item, StmtForm};
 use std::alloc::{AllocError, Global};
 
 /// `tree`, or the number of the stop and its token.

@@ -1,11 +1,13 @@
 use Rattle.std.proofs.Common.{List, Result, Ok, Err, ◌∙◌, subst}
-use Rattle.c_syntax.specs.declared.tree.Unit.{Unit as Tree}
-use Rattle.c_syntax.specs.declared.error.SyntaxStop.{SyntaxStop}
-use Rattle.c_syntax.specs.Input.{State, Word, Names}
-use Rattle.c_syntax.specs.Parser.{Outcome}
-use Rattle.c_syntax.specs.Gives.{Gives}
+use Rattle.c_tree.specs.declared.tree.Unit.{Unit as Tree}
+use Rattle.c_input.specs.declared.error.SyntaxStop.{SyntaxStop}
+use Rattle.c_input.specs.declared.word.Place.{Place as State}
+use Rattle.c_input.specs.declared.word.Word.{Word}
+use Rattle.c_input.specs.Input.{Names}
+use Rattle.c_input.specs.Parser.{Outcome}
+use Rattle.c_input.specs.Gives.{Gives}
 use Rattle.c_syntax.specs.FileScope.{Answers, translation_unit, start}
-use Rattle.c_syntax.specs.Words.{words_of}
+use Rattle.c_input.specs.Words.{words_of}
 use Rattle.c_syntax.proofs.parse.Goals as goal
 
 answered : (o : Outcome Tree) (r : Result Tree SyntaxStop) (new : State) → Gives o r new → Answers o r

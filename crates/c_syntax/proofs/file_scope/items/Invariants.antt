@@ -1,9 +1,9 @@
 use Rattle.std.proofs.Common.{◌≡◌, ◌-◌}
 use Rattle.c_syntax.specs.FileScope.{file_items, file_item, is_no_end, limit}
 use Rattle.c_syntax.specs.Statements.{parts_within}
-use Rattle.c_syntax.specs.Parser.{most_words}
-use Rattle.c_syntax.specs.Words.{words_of}
-use Rattle.c_syntax.proofs.Rows.{Rest}
+use Rattle.c_input.specs.Parser.{most_words}
+use Rattle.c_input.specs.Words.{words_of}
+use Rattle.c_input.proofs.Rows.{Rest}
 use Rattle.c_syntax.proofs.file_scope.items.Given as goal
 
 abbrev pub invariant-loop-turn : goal.invariant-loop-turn

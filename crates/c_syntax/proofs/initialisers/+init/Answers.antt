@@ -1,7 +1,7 @@
 use Rattle.std.proofs.Common.{ℕ, arith}
 use Rattle.c_syntax.specs.Initialisers.{init_within}
-use Rattle.c_syntax.specs.Words.{words_of}
-use Rattle.c_syntax.proofs.Turns.{deeper}
+use Rattle.c_input.specs.Words.{words_of}
+use Rattle.c_input.proofs.Turns.{deeper}
 use Rattle.c_syntax.proofs.initialisers.+init.Goals as goal
 
 pub returns : goal.returns

@@ -1,8 +1,8 @@
 use Rattle.std.proofs.Common.{ℕ, Option, sym, subst, arith}
 use Rattle.c_syntax.specs.Statements.{nested}
 use Rattle.c_syntax.specs.Below.{Finds}
-use Rattle.c_syntax.specs.Words.{words_of}
-use Rattle.c_syntax.proofs.Turns.{deeper}
+use Rattle.c_input.specs.Words.{words_of}
+use Rattle.c_input.proofs.Turns.{deeper}
 use Rattle.c_syntax.proofs.statements.+statement.Goals as goal
 
 pub returns-in-Some : goal.returns-in-Some

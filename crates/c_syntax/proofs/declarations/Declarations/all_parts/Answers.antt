@@ -1,11 +1,11 @@
 use Rattle.std.proofs.Common.{◌≡◌, true, false, rules, arith}
 use Rattle.std.proofs.lemmas.Grind.{common_steps}
-use Rattle.c_syntax.specs.Input.{look_at}
-use Rattle.c_syntax.specs.Words.{words_of}
+use Rattle.c_input.specs.Input.{look_at}
+use Rattle.c_input.specs.Words.{words_of}
+use Rattle.c_input.specs.Signs.{is_comma}
 use Rattle.c_syntax.specs.Declarations.{all_parts, next_part}
 use Rattle.c_syntax.specs.Initialisers.{inits_within}
-use Rattle.c_syntax.specs.Specifiers.{is_comma}
-use Rattle.c_syntax.proofs.Rows.{begun_with, ended, over, next, stops}
+use Rattle.c_input.proofs.Rows.{begun_with, ended, over, next, stops}
 use Rattle.c_syntax.proofs.declarations.Declarations.all_parts.Goals as goal
 
 pub loop-turn-init : goal.loop-turn-init

@@ -1,10 +1,10 @@
 use Rattle.std.proofs.Common.{◌≡◌, ◌-◌}
 use Rattle.c_syntax.specs.Declarations.{all_parts, next_part}
 use Rattle.c_syntax.specs.Initialisers.{inits_within}
-use Rattle.c_syntax.specs.Specifiers.{is_comma}
-use Rattle.c_syntax.specs.Parser.{most_words}
-use Rattle.c_syntax.specs.Words.{words_of}
-use Rattle.c_syntax.proofs.Rows.{Rest}
+use Rattle.c_input.specs.Parser.{most_words}
+use Rattle.c_input.specs.Words.{words_of}
+use Rattle.c_input.specs.Signs.{is_comma}
+use Rattle.c_input.proofs.Rows.{Rest}
 use Rattle.c_syntax.proofs.declarations.Declarations.all_parts.Given as goal
 
 abbrev pub invariant-loop-turn : goal.invariant-loop-turn

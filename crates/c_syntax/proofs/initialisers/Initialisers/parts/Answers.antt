@@ -1,10 +1,10 @@
 use Rattle.std.proofs.Common.{◌≡◌, true, false, rules, arith}
 use Rattle.std.proofs.lemmas.Grind.{common_steps}
-use Rattle.c_syntax.specs.Input.{look_at}
+use Rattle.c_input.specs.Input.{look_at}
 use Rattle.c_syntax.specs.Initialisers.{init_parts, inits_within, part}
-use Rattle.c_syntax.specs.Specifiers.{is_comma, is_close_brace}
-use Rattle.c_syntax.specs.Words.{words_of}
-use Rattle.c_syntax.proofs.Rows.{first, refused, last, last_comma, again, done}
+use Rattle.c_input.specs.Words.{words_of}
+use Rattle.c_input.specs.Signs.{is_comma, is_close_brace}
+use Rattle.c_input.proofs.Rows.{first, refused, last, last_comma, again, done}
 use Rattle.c_syntax.proofs.initialisers.Initialisers.parts.Goals as goal
 
 pub loop-turn-init : goal.loop-turn-init

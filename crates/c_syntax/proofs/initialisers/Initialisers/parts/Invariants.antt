@@ -1,9 +1,9 @@
 use Rattle.std.proofs.Common.{◌≡◌, ◌-◌}
 use Rattle.c_syntax.specs.Initialisers.{init_parts, inits_within, part}
-use Rattle.c_syntax.specs.Specifiers.{is_comma, is_close_brace}
-use Rattle.c_syntax.specs.Parser.{most_words}
-use Rattle.c_syntax.specs.Words.{words_of}
-use Rattle.c_syntax.proofs.Rows.{Left}
+use Rattle.c_input.specs.Parser.{most_words}
+use Rattle.c_input.specs.Words.{words_of}
+use Rattle.c_input.specs.Signs.{is_comma, is_close_brace}
+use Rattle.c_input.proofs.Rows.{Left}
 use Rattle.c_syntax.proofs.initialisers.Initialisers.parts.Given as goal
 
 abbrev pub invariant-loop-turn : goal.invariant-loop-turn

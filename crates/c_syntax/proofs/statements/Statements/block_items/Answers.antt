@@ -1,10 +1,10 @@
 use Rattle.std.proofs.Common.{◌≡◌, true, false, rules, arith}
 use Rattle.std.proofs.lemmas.Grind.{common_steps}
-use Rattle.c_syntax.specs.Input.{look_at}
-use Rattle.c_syntax.specs.Words.{words_of}
+use Rattle.c_input.specs.Input.{look_at}
+use Rattle.c_input.specs.Words.{words_of}
+use Rattle.c_input.specs.Signs.{is_no_close_brace}
 use Rattle.c_syntax.specs.Statements.{block_items, block_item, parts_within}
-use Rattle.c_syntax.specs.Specifiers.{is_no_close_brace}
-use Rattle.c_syntax.proofs.Rows.{begun, ended, over, next, stops}
+use Rattle.c_input.proofs.Rows.{begun, ended, over, next, stops}
 use Rattle.c_syntax.proofs.statements.Statements.block_items.Goals as goal
 
 pub loop-turn-init : goal.loop-turn-init

@@ -1,9 +1,9 @@
 use Rattle.std.proofs.Common.{◌≡◌, ◌-◌}
 use Rattle.c_syntax.specs.Statements.{block_items, block_item, parts_within}
-use Rattle.c_syntax.specs.Specifiers.{is_no_close_brace}
-use Rattle.c_syntax.specs.Parser.{most_words}
-use Rattle.c_syntax.specs.Words.{words_of}
-use Rattle.c_syntax.proofs.Rows.{Rest}
+use Rattle.c_input.specs.Parser.{most_words}
+use Rattle.c_input.specs.Words.{words_of}
+use Rattle.c_input.specs.Signs.{is_no_close_brace}
+use Rattle.c_input.proofs.Rows.{Rest}
 use Rattle.c_syntax.proofs.statements.Statements.block_items.Given as goal
 
 abbrev pub invariant-loop-turn : goal.invariant-loop-turn

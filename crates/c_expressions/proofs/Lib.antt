@@ -1,0 +1,2 @@
+pub mod SpecifierLists
+pub mod ParameterLists

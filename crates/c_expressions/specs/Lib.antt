@@ -1,0 +1,12 @@
+pub mod Nest
+pub mod Specifiers
+pub mod Declarators
+pub mod Expressions
+pub mod Levels
+pub mod Nests
+pub use Rattle.c_input.specs.Scope
+pub use Rattle.c_input.specs.Input
+pub use Rattle.c_input.specs.Signs
+pub use Rattle.c_input.specs.Parser
+pub use Rattle.c_input.specs.Words
+pub use Rattle.c_input.specs.Gives

@@ -1,0 +1,12 @@
+pub mod Combinators
+pub mod SpecifierRules
+pub mod DeclaratorRules
+pub mod ExpressionRules
+pub mod LevelRules
+pub mod InitialiserRules
+pub mod DeclarationRules
+pub mod StatementRules
+pub mod FileRules
+pub mod ListRules
+pub mod Files
+pub mod HeightRules

@@ -1,0 +1,28 @@
+-- What holds of the parser's outcome on a file.
+use Rattle.std.specs.Prelude.{◌≡◌, ◌≤◌, suc, List, length, take, Ok, Err}
+use Rattle.c_tree.specs.declared.tree.Unit.{Unit as Tree}
+use Rattle.c_input.specs.declared.word.Word.{Word}
+use Rattle.c_input.specs.declared.word.Place.{Place as State}
+use Rattle.c_lex.specs.Bytes.{Text}
+use Rattle.c_lex.specs.declared.token.Token.{Token}
+use Rattle.c_input.specs.Words.{words_of, word_list}
+use Rattle.c_input.specs.Parser.{Stop, Outcome}
+use Rattle.c_syntax.specs.FileScope.{translation_unit, start}
+use Rattle.c_grammar.specs.Places.{stop_place}
+use Rattle.c_grammar.specs.Lists.{most_tokens}
+
+abbrev pub outcome : List Word → Outcome Tree
+outcome ws = translation_unit (words_of ws) start
+
+-- a file that begins with the words of another up to its stop has the same stop
+abbrev pub StopIsFinal : Type 0
+StopIsFinal = (ws vs : List Word) (e : Stop) → outcome ws ≡ Err e → take (suc (stop_place e)) vs ≡ take (suc (stop_place e)) ws → outcome vs ≡ Err e
+
+-- a stop is at a word of the file, or at its end
+abbrev pub StopIsInFile : Type 0
+StopIsInFile = (ws : List Word) (e : Stop) → outcome ws ≡ Err e → stop_place e ≤ length ws
+
+-- a tree is one of all the tokens of the file
+abbrev pub TreeIsOfFile : Type 0
+TreeIsOfFile = (file : Text) (tokens : List Token) (tree : Tree) (end : State) → length tokens ≤ most_tokens →
+    outcome (word_list file tokens) ≡ Ok (tree, end) → end.at ≡ length tokens

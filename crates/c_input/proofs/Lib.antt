@@ -1,0 +1,7 @@
+pub mod Bounds
+pub mod Turns
+pub mod Scopes
+pub mod Lists
+pub mod Rows
+pub mod Seen
+pub mod Texts

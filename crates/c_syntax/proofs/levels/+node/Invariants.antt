@@ -1,4 +1,0 @@
-use Rattle.c_syntax.proofs.levels.+node.Given as goal
-
-abbrev pub decreases-node : goal.decreases-node
-decreases-node l = l.room
