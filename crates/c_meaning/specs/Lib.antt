@@ -1,2 +1,2 @@
-pub mod Execution
-pub mod Value
+pub mod ConstantExecution
+pub mod ConstantValue

@@ -1,11 +1,12 @@
 //! The concrete meaning of C on the data model (int has 32 bits): what an operation gives, or how it is undefined.
 //!
-//! `operate` and `evaluate` are exactly the definitions of `specs/Value.antt`. What an execution of a function is, and
-//! where it is undefined, is defined in `specs/Execution.antt`. Stands on the graphs of `normal_form`.
+//! `negate`, `operate` and `evaluate` are exactly the definitions of `specs/ConstantValue`. What an execution of a function
+//! is, and where it is undefined, is defined in `specs/ConstantExecution`. Stands on the graphs of `program`.
 #![tactic(auto)]
 
-mod evaluation;
-mod kind;
+mod constant;
 
-pub use evaluation::{evaluate, operate};
-pub use kind::{Kind, Site, Undefined};
+pub use constant::{Undefined, evaluate, negate, operate};
+
+#[cfg(test)]
+mod tests;

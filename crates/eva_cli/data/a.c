@@ -1,1 +1,1 @@
-int f(void){return 6/4;}
+int main(void){return -2147483647 - 1 + 0;}

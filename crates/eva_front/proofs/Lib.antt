@@ -1,5 +1,8 @@
-pub mod Numbers
-pub mod Forms
-pub mod Texts
-pub mod Reading
+pub mod Definitions
+pub mod Entries
 pub mod Headline
+pub mod Judged
+pub mod Reading
+pub mod Texts
+pub mod Tokens
+pub mod Unique

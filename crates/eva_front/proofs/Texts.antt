@@ -4,8 +4,8 @@ use lib.Chars.{codes}
 use Rattle.std.proofs.lemmas.Grind.{flat_map-append}
 use Rattle.std.proofs.lemmas.List.{map-append, take_more}
 use Rattle.eva_front.specs.Report.{alarm_line, end_lines, ended, first_line, last_line, report_text, text_of_lines}
-use Rattle.normal_form.specs.declared.graph.Function.{Function}
-use Rattle.iterate.specs.declared.entry.EntryResult.{EntryResult}
+use Rattle.program.specs.declared.graph.Function.{Function}
+use Rattle.iterate.specs.declared.constant.EntryResult.{EntryResult}
 
 pub text_append : (xs ys : List (List ℕ)) → text_of_lines (xs ++ ys) ≡ text_of_lines xs ++ text_of_lines ys
 text_append = flat_map-append ended
@@ -54,10 +54,10 @@ alarms_more f xs i d old new line h e p q =
     p ∙ ap (λ t. t ++ line) e ∙ ap (λ t. text_of_lines (map f (take i xs)) ++ t) q ∙ sym (one_more f xs i d h)
 
 -- the parts of a report, put together
-pub report_of : (file : List ℕ) (f : Function) (r : EntryResult) (t0 a t1 e t2 l t3 : List ℕ) → t0 ≡ ended (first_line f.name r.turns) →
-    a ≡ text_of_lines (map (alarm_line file f) r.alarms) → t1 ≡ t0 ++ a → e ≡ text_of_lines (end_lines f.name r.end) → t2 ≡ t1 ++ e →
-    l ≡ ended (last_line (length r.alarms) r.turns) → t3 ≡ t2 ++ l → t3 ≡ report_text file f r
-report_of file f r t0 a t1 e t2 l t3 first alarms p end q last s =
+pub report_of : (file word : List ℕ) (f : Function) (r : EntryResult) (t0 a t1 e t2 l t3 : List ℕ) → t0 ≡ ended (first_line f.name r.turns) →
+    a ≡ text_of_lines (map (alarm_line file word f) r.alarms) → t1 ≡ t0 ++ a → e ≡ text_of_lines (end_lines f.name r.end) → t2 ≡ t1 ++ e →
+    l ≡ ended (last_line (length r.alarms) r.turns) → t3 ≡ t2 ++ l → t3 ≡ report_text file word f r
+report_of file word f r t0 a t1 e t2 l t3 first alarms p end q last s =
     let h : t3 ≡ ((t0 ++ a) ++ e) ++ l = s ∙ ap (λ x. x ++ l) (q ∙ ap (λ x. x ++ e) p) in
     h ∙ rw (first, alarms, end, last)
-    (whole_text (first_line f.name r.turns) (map (alarm_line file f) r.alarms) (end_lines f.name r.end) (last_line (length r.alarms) r.turns))
+    (whole_text (first_line f.name r.turns) (map (alarm_line file word f) r.alarms) (end_lines f.name r.end) (last_line (length r.alarms) r.turns))

@@ -1,5 +1,7 @@
 pub mod Answer
 pub mod Command
-pub mod Form
+pub mod FileNames
+pub mod FrontEnd
 pub mod Outside
+pub mod Refusals
 pub mod Report

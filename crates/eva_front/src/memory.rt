@@ -20,7 +20,8 @@ impl<'a> SureFiles<'a> {
     }
 }
 
-fn find<'a>(files: &'a [(&'a str, &'a [u8])], name: &str) -> Option<&'a [u8]>
+/// The bytes of a name: its first entry counts.
+pub fn find<'a>(files: &'a [(&'a str, &'a [u8])], name: &str) -> Option<&'a [u8]>
     ensures { held result ≡ bytes_of files.now name.now }
 {
     let ((first, bytes), rest) = files.split_first()?;

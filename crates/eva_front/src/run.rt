@@ -1,16 +1,18 @@
-ghost use Rattle.std.specs.Prelude.{◌≡◌, map, IfOk, IfSome, string_bytes};
-ghost use Rattle.eva_front.specs.Answer.{HasCauses, IsAnswered, IsPrinted, IsReport, IsVerdict, TakesFirstPath, code};
+ghost use Rattle.std.specs.Prelude.{◌≡◌, ◌<◌, ◌^◌, length, map, slice_get, All, IfOk, IfSome, MatchOption, Some, bytes_eq, position, string_bytes};
+ghost use Rattle.normal_form.specs.ConstantForm.{IsReturning};
+ghost use Rattle.eva_front.specs.Answer.{AnalysesEntries, HasCauses, HasEntry, IsAnswered, IsPrinted, IsVerdict, code, verdict};
 ghost use Rattle.eva_front.specs.Command.{meaning};
-ghost use Rattle.normal_form.specs.Lawful.{HasIntConstants};
-ghost use Rattle.normal_form.specs.Norm.{norm};
 
 use crate::command::{Command, read_command};
-use crate::form::{FormStop, read_form};
+use crate::front_end::{FileStop, read_definitions};
 use crate::outside::{Sink, Source};
+use crate::refusals::{write_refusal, write_unknown};
+use crate::report::{Reported, write_report};
 use crate::streams::{ReadStop, put_all, read_file};
-use crate::writing::report;
 use iterate::analyse_entry;
-use normal_form::{Definition, normalise};
+use normal_form::{Returning, normalise};
+use program::Site;
+use sqlite_items::Items;
 use std::alloc::{AllocError, Global};
 
 const USAGE: &str = "usage: eva [--workers N] [--cache N] [--rows N] [--steps N] FILE ENTRY...\n";
@@ -33,6 +35,8 @@ pub enum Status {
     /// A call of the sink failed.
     WriteFault,
     OutOfMemory,
+    /// The file has no function of the entry's name.
+    UnknownEntry,
 }
 
 impl Status {
@@ -48,6 +52,7 @@ impl Status {
             Status::ReadFault => 5,
             Status::WriteFault => 6,
             Status::OutOfMemory => 7,
+            Status::UnknownEntry => 8,
         }
     }
 }
@@ -59,38 +64,91 @@ struct Verdict {
     text: String,
 }
 
-/// The report on the lone run of the definition's function.
-fn report_on(alloc: Global, file: &str, definition: Definition) -> Result<Verdict, AllocError>
-    requires { HasIntConstants definition.value }
-    ensures { IfOk result (λ a. IsReport file.now (norm definition) a.status (string_bytes a.text)) }
+/// A function of a file, with its number in the file.
+#[derive(Drop)]
+struct Entry {
+    number: u32,
+    definition: Returning,
+}
+
+/// The number of the first definition of this name.
+fn number_of(definitions: &[Returning], name: &str) -> Option<usize>
+    ensures { result ≡ position (λ d. bytes_eq d.name name.now) definitions.now }
 {
-    let f = normalise(alloc, definition)?;
-    let result = analyse_entry(alloc, &f)?;
-    let status = if result.alarms.is_empty() {
-        Status::Clean
-    } else {
-        Status::Alarms
+    definitions
+        .iter()
+        .position(|definition| definition.name.as_slice() == name.as_bytes())
+}
+
+/// The definition of this name, if any.
+fn find_entry(definitions: Items<Returning>, name: &str) -> Option<Entry>
+    requires { length definitions < 2 ^ 32 }
+    ensures { MatchOption result (All (λ d. d.name ≡ name.now → ⊥) definitions) (λ e. (slice_get definitions e.number ≡ Some e.definition) × (e.definition.name ≡ name.now)) }
+{
+    let number = number_of(definitions.as_slice(), name)?;
+    let mut definitions = definitions;
+    Some(Entry {
+        number: number as u32,
+        definition: definitions.remove(number),
+    })
+}
+
+/// How a run with these alarms ends.
+fn status_of(alarms: &[Site]) -> Status
+    ensures { result ≡ verdict alarms.now }
+{
+    match alarms {
+        [] => Status::Clean,
+        _ => Status::Alarms,
+    }
+}
+
+/// The report on the lone run of the entry.
+fn report_on(
+    alloc: Global,
+    bytes: &[u8],
+    command: Command<'_>,
+    entry: Entry,
+) -> Result<Verdict, AllocError>
+    requires lawful { IsReturning entry.definition }
+    requires found { HasEntry bytes.now command.entry.now entry.number entry.definition }
+    ensures { IfOk result (λ a. IsVerdict bytes.now command.entry.file.now command.entry.entry.now a.status (string_bytes a.text)) }
+{
+    let Entry { number, definition } = entry;
+    let function = normalise(alloc, definition)?;
+    let result = analyse_entry(alloc, number, &function)?;
+    let on = Reported {
+        file: bytes,
+        word: command.file,
+        name: command.entry,
+        function: &function,
     };
     Ok(Verdict {
-        status,
-        text: report(alloc, file, &f, &result)?,
+        status: status_of(result.alarms.as_slice()),
+        text: write_report(alloc, &on, &result)?,
     })
 }
 
 /// What is answered on a file of these bytes.
-fn judge(alloc: Global, bytes: &[u8], command: Command) -> Result<Verdict, AllocError>
+fn judge(alloc: Global, bytes: &[u8], command: Command<'_>) -> Result<Verdict, AllocError>
     ensures { IfOk result (λ a. IsVerdict bytes.now command.entry.file.now command.entry.entry.now a.status (string_bytes a.text)) }
 {
-    match read_form(alloc, bytes, command.entry) {
-        Ok(definition) => report_on(alloc, command.file, definition),
-        Err(FormStop::Form) => {
-            let text = String::from_str(alloc, "refused: form 1\n")?;
-            Ok(Verdict {
+    let definitions = match read_definitions(alloc, bytes) {
+        Ok(definitions) => definitions,
+        Err(FileStop::Refused(refusal)) => {
+            return Ok(Verdict {
                 status: Status::Refused,
-                text,
-            })
+                text: write_refusal(alloc, bytes, command.file, refusal)?,
+            });
         }
-        Err(FormStop::Memory) => Err(AllocError),
+        Err(FileStop::Memory) => return Err(AllocError),
+    };
+    match find_entry(definitions, command.entry) {
+        Some(entry) => report_on(alloc, bytes, command, entry),
+        None => Ok(Verdict {
+            status: Status::UnknownEntry,
+            text: write_unknown(alloc, command.entry)?,
+        }),
     }
 }
 
@@ -124,12 +182,13 @@ fn say<S: Source, K: Sink>(alloc: Global, words: &[String], source: &mut S, sink
 
 /// The whole program: reads FILE, analyses ENTRY, prints the report, and answers the exit status.
 ///
-/// - 0 and 1: the file has the form `int ENTRY(void) { return E; }`; the report on the lone run of ENTRY is printed,
-///   without and with an alarm.
+/// - 0 and 1: the file is a list of functions `int NAME(void) { return E; }` with constant expressions, and ENTRY is one of
+///   them; the report on its lone run is printed, without and with an alarm.
 /// - 2: the words are not FILE and ENTRY.
-/// - 3: the file isn't of the form.
+/// - 3: the file is too long, its tokens or its grammar stop, or it isn't of the form.
 /// - 5 and 6: a call of the source, or of the sink, failed; at 6 a prefix of the text went out.
 /// - 7: memory is wanting.
+/// - 8: the file is of the form, and ENTRY is none of its functions.
 pub fn run_eva<S: Source, K: Sink>(
     alloc: Global,
     words: &[String],
@@ -139,7 +198,7 @@ pub fn run_eva<S: Source, K: Sink>(
     requires { IfSome (meaning (map string_bytes words.now)) (λ c. S.open_to source.old c.file) }
     ensures answered { IsAnswered (record { words = map string_bytes words.now; content = S.content source.old; read_before = S.faults source.old; read_after = S.faults source.new; written_before = K.written sink.old; written_after = K.written sink.new; write_before = K.faults sink.old; write_after = K.faults sink.new; status = result }) }
     ensures causes { HasCauses (record { words = map string_bytes words.now; content = S.content source.old; read_before = S.faults source.old; read_after = S.faults source.new; written_before = K.written sink.old; written_after = K.written sink.new; write_before = K.faults sink.old; write_after = K.faults sink.new; status = result }) }
-    ensures first_path { TakesFirstPath (record { words = map string_bytes words.now; content = S.content source.old; read_before = S.faults source.old; read_after = S.faults source.new; written_before = K.written sink.old; written_after = K.written sink.new; write_before = K.faults sink.old; write_after = K.faults sink.new; status = result }) }
+    ensures analysed { AnalysesEntries (record { words = map string_bytes words.now; content = S.content source.old; read_before = S.faults source.old; read_after = S.faults source.new; written_before = K.written sink.old; written_after = K.written sink.new; write_before = K.faults sink.old; write_after = K.faults sink.new; status = result }) }
 {
     say(alloc, words, source, sink)
 }

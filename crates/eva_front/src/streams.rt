@@ -2,7 +2,7 @@ ghost use Rattle.std.specs.Prelude.{◌≡◌, ℕ, ◌≤◌, ◌<◌, take, le
 ghost use Rattle.eva_front.specs.Outside.{Appends, HasCause, Rose};
 ghost use Rattle.eva_front.specs.declared.streams.ReadStop.TheVariants.{Fault as ReadFault};
 
-use crate::form::LONGEST_FILE;
+use crate::front_end::LONGEST_FILE;
 use crate::outside::{Failed, Sink, Source};
 use std::alloc::{AllocError, Global};
 

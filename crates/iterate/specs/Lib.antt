@@ -1,2 +1,2 @@
-pub mod LoneRun
-pub mod Sound
+pub mod ConstantRun
+pub mod ConstantSound

@@ -1,2 +1,3 @@
-pub mod Lawful
-pub mod Norm
+pub mod ConstantExpression
+pub mod ConstantForm
+pub mod ConstantNorm

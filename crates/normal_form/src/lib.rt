@@ -1,16 +1,16 @@
 //! The normal form of a C function: a graph of typed nodes, numbered in order of emission.
 //!
-//! `normalise` gives exactly the graph that the definition `norm` names for a function of the form
-//! `int NAME(void) { return E; }`, and the graph is well linked: each node but the exit has one edge, to a greater
-//! number. Stands on the lists of `sqlite_items`, which contracts see as plain lists.
+//! So far for files of functions `int NAME(void) { return E; }` that return constants: `definitions` answers the
+//! functions of such a file, exactly where it is of that form (`specs/ConstantForm`), and `normalise` gives each the graph
+//! that `norm` names (`specs/ConstantNorm`). Stands on the trees of `c_tree` and the graphs of `program`.
 #![tactic(auto)]
 
-mod emit;
-mod graph;
-mod name;
-mod tree;
+mod constant;
+mod expression;
+mod form;
 
-pub use emit::normalise;
-pub use graph::{Function, Instr, Node};
-pub use name::Name;
-pub use tree::{BinOp, Definition, Expr};
+pub use constant::{Returning, normalise};
+pub use form::definitions;
+
+#[cfg(test)]
+mod tests;

@@ -1,6 +1,8 @@
-use Rattle.std.proofs.lemmas.Result.{IfOk-weaker}
-use Rattle.eva_front.specs.Answer.{reported}
+use Rattle.std.proofs.Common.{refl}
+use Rattle.eva_front.specs.Answer.{refused}
 use Rattle.eva_front.proofs.run.judge.Goals as goal
 
-pub returns-in-Ok : goal.returns-in-Ok
-returns-in-Ok c = IfOk-weaker c.report_on.result _ _ (λ a h. reported c.in-Ok.definition c.in-Ok.ensures.form h) c.report_on.ensures
+pub returns-in-Err-Refused : goal.returns-in-Err-Refused
+returns-in-Err-Refused c =
+    refused c.in-Err-Refused.refusal (c.in-Err-Refused.ensures.refused c.in-Err-Refused.refusal c.in-Err-Refused.field-0-is) refl
+    c.in_ok-write_refusal-in-Err-Refused.ensures

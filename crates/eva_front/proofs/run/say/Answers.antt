@@ -3,7 +3,7 @@ use Rattle.eva_front.specs.declared.run.Status.TheVariants.{Usage, ReadFault, Ou
 use lib.Chars.{codes}
 use Rattle.eva_front.specs.Answer.{usage, usage_line, unread, wanting}
 use Rattle.eva_front.specs.Report.{ended}
-use Rattle.eva_front.proofs.Headline.{say_verdict}
+use Rattle.eva_front.proofs.Judged.{say_verdict}
 use Rattle.eva_front.proofs.run.say.Goals as goal
 
 pub returns-in_default : goal.returns-in_default

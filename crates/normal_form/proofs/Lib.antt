@@ -1,0 +1,4 @@
+pub mod ConstantCounts
+pub mod ConstantEquations
+pub mod ConstantExpressions
+pub mod ConstantForms
