@@ -1,11 +1,11 @@
 -- A parser goes forward, depends on no word behind the place where it ends or stops, goes past no place without a word, and
--- perhaps takes a word before it ends. So many words are known to follow.
-use Rattle.std.proofs.Common.{◌≡◌, ℕ, zero, suc, ◌+◌, ◌-◌, ◌<◌, ◌≤◌, ◌⊎◌, inl, inr, Bool, true, false, List, [], ◌∷◌, None, Ok, Err, refl, sym, ap, ◌∙◌, subst, arith, le_trans, le_refl, length}
+-- perhaps takes a word before it ends. So many words are known to follow. It keeps the names in scope, perhaps with more in front.
+use Rattle.std.proofs.Common.{◌≡◌, ℕ, zero, suc, ◌+◌, ◌-◌, ◌<◌, ◌≤◌, ◌⊎◌, inl, inr, Bool, true, false, List, [], ◌∷◌, ◌++◌, take, drop, None, Ok, Err, refl, sym, ap, ◌∙◌, subst, arith, le_trans, le_refl, length, append_assoc, length-append}
 use Rattle.c_input.specs.declared.word.Sign.TheVariants as sign
 use Rattle.c_input.specs.declared.measured.Measured.{Measured}
 use Rattle.c_input.specs.declared.word.Sign.{Sign}
 use Rattle.c_input.specs.declared.word.Place.{Place as State}
-use Rattle.c_input.specs.Input.{Words, step, sign_at, look_at, name_in, is_name, oldest}
+use Rattle.c_input.specs.Input.{Names, Words, step, sign_at, look_at, name_in, is_name, oldest}
 use Rattle.c_input.specs.Parser.{Stop, syntax, too_deep, left_out, most_words, Outcome, Parser, and_then, ◌>>=◌, ◌>>◌, pure, look, here, skip, stop_by, refuse, too_deep_here, left_out_here, no_room, if_so, expect, take_name, any_name, declare, scoped, many_from, many, one_or_more, separated, trailed_from, trailed, trees, deepest, gathered}
 use Rattle.c_grammar.specs.Places.{stop_place, place, SameTo, GoesForward, IsLocal}
 
@@ -13,11 +13,53 @@ abbrev pub Past : {A : Type 0} → ℕ → Outcome A → Type 0
 Past n (Ok x) = n ≤ x.1.at
 Past n (Err e) = Unit {0}
 
+-- these names, and perhaps more in front
+abbrev pub Extends : Names → Names → Type 0
+Extends outer names = (new : Names) × (names ≡ new ++ outer)
+
+pub extends_refl : (names : Names) → Extends names names
+extends_refl names = ([], refl)
+
+pub extends_trans : (a b c : Names) → Extends a b → Extends b c → Extends a c
+extends_trans a b c x y = (y.0 ++ x.0, y.1 ∙ ap (λ z. y.0 ++ z) x.1 ∙ sym (append_assoc y.0 x.0 a))
+
+abbrev pub Keeps : {A : Type 0} → Names → Outcome A → Type 0
+Keeps outer (Ok x) = Extends outer x.1.names
+Keeps outer (Err e) = Unit {0}
+
+keeps_more : {A : Type 0} (a b : Names) (o : Outcome A) → Extends a b → Keeps b o → Keeps a o
+keeps_more a b (Ok x) e h = extends_trans a b x.1.names e h
+keeps_more a b (Err stop) e h = tt
+
+keeps_on : {A B : Type 0} (W : Words) (names : Names) (o : Outcome A) (f : A → Parser B) → ((a : A) (t : State) → Keeps t.names (f a W t)) → Keeps names o →
+    Keeps names (and_then W o f)
+keeps_on W names (Ok x) f h e = keeps_more names x.1.names (f x.0 W x.1) e (h x.0 x.1)
+keeps_on W names (Err stop) f h e = tt
+
+dropped : (new outer : Names) → drop (length new) (new ++ outer) ≡ outer
+dropped [] outer = refl
+dropped (x ∷ new) outer = dropped new outer
+
+pub oldest_are : (outer names : Names) → Extends outer names → oldest (length outer) names ≡ outer
+oldest_are outer names e = ap (oldest (length outer)) e.1 ∙
+    ap (λ n. drop n (e.0 ++ outer)) (omega (arith, length-append e.0 outer)) ∙ dropped e.0 outer
+
+taken : (new outer : Names) → take (length new) (new ++ outer) ≡ new
+taken [] outer = refl
+taken (x ∷ new) outer = ap (λ xs. x ∷ xs) (taken new outer)
+
+pub newest_are : (outer names : Names) → Extends outer names → names ≡ take (length names - length outer) names ++ outer
+newest_are outer names e =
+    let all : take (length (e.0 ++ outer) - length outer) (e.0 ++ outer) ++ outer ≡ e.0 ++ outer =
+    ap (λ n. take n (e.0 ++ outer) ++ outer) (omega (arith, length-append e.0 outer)) ∙ ap (λ xs. xs ++ outer) (taken e.0 outer) in
+    e.1 ∙ sym all ∙ ap (λ xs. take (length xs - length outer) xs ++ outer) (sym e.1)
+
 pub record Reads {A : Type 0} (k : ℕ) (moves : Bool) (p : Parser A) : Type 0 where
   pub forward : GoesForward p
   pub local : IsLocal p
   pub inside : (W : Words) (s : State) (n : ℕ) → W n ≡ None → s.at + k ≤ n → place (p W s) ≤ n
   pub past : (W : Words) (s : State) (n : ℕ) → W n ≡ None → n < most_words → s.at + k ≤ n → moves ≡ true → Past (suc s.at) (p W s)
+  pub keeps : (W : Words) (s : State) → Keeps s.names (p W s)
 
 pub past_of : {A : Type 0} (n : ℕ) (o : Outcome A) → n ≤ place o → Past n o
 past_of n (Ok x) le = le
@@ -70,6 +112,7 @@ weaker {p} j k le r = record {
   local = r.local;
   inside = λ W s n none more. r.inside W s n none (omega arith);
   past = λ W s n none low more. r.past W s n none low (omega arith);
+  keeps = r.keeps;
 }
 
 pub reads_any : {A : Type 0} {k : ℕ} {moves : Bool} {p : Parser A} → Reads 0 moves p → Reads k moves p
@@ -81,6 +124,7 @@ reads_pure a = record {
   local = λ W V s same. refl;
   inside = λ W s n none le. omega arith;
   past = λ W s n none low le e. absurd (cc);
+  keeps = λ W s. extends_refl s.names;
 }
 
 -- a parser that stops where it begins
@@ -91,6 +135,7 @@ stops {k} p e is at = record {
   local = λ W V s same. is V s ∙ ap (λ q. Err (e q s.at)) (same_look W V s (same s.at (let same_place = there W s in omega arith))) ∙ sym (is W s);
   inside = λ W s n none le. let same = there W s in omega arith;
   past = λ W s n none low le e'. subst (Past (suc s.at)) (sym (is W s)) tt;
+  keeps = λ W s. subst (Keeps s.names) (sym (is W s)) tt;
 }
   where
     there : (W : Words) (s : State) → place (p W s) ≡ s.at
@@ -124,6 +169,7 @@ reads_skip = record {
   local = λ W V s same. refl;
   inside = λ W s n none le. omega arith;
   past = λ W s n none low le e. le_refl (suc s.at);
+  keeps = λ W s. extends_refl s.names;
 }
 
 pub reads_take_name : {moves : Bool} → Reads 1 moves take_name
@@ -132,23 +178,26 @@ reads_take_name = record {
   local = λ W V s same. ap (λ w. Ok ((name_in w, s.at), step s)) (sym (same s.at (omega arith)));
   inside = λ W s n none le. omega arith;
   past = λ W s n none low le e. le_refl (suc s.at);
+  keeps = λ W s. extends_refl s.names;
 }
 
 -- a parser that changes the names alone
-pub reads_names : {A : Type 0} {k : ℕ} (a : State → A) (t : State → State) → ((s : State) → (t s).at ≡ s.at) → Reads k false (λ W s. Ok (a s, t s))
-reads_names a t same = record {
+pub reads_names : {A : Type 0} {k : ℕ} (a : State → A) (t : State → State) → ((s : State) → (t s).at ≡ s.at) → ((s : State) → Extends s.names (t s).names) →
+    Reads k false (λ W s. Ok (a s, t s))
+reads_names a t same more = record {
   forward = λ W s. let e = same s in omega arith;
   local = λ W V s _. refl;
   inside = λ W s n none le. let e = same s in omega arith;
   past = λ W s n none low le e. absurd (cc);
+  keeps = λ W s. more s;
 }
 
 pub reads_here : {k : ℕ} → Reads k false here
-reads_here = reads_names (λ s. s.at) (λ s. s) (λ s. refl)
+reads_here = reads_names (λ s. s.at) (λ s. s) (λ s. refl) (λ s. extends_refl s.names)
 
 pub reads_declare : {k : ℕ} (n : ℕ) (t : Bool) → Reads k false (declare n t)
 unfolding declare
-reads_declare n t = reads_names (λ s. tt) (λ s. record { at = s.at; names = (n, t) ∷ s.names }) (λ s. refl)
+reads_declare n t = reads_names (λ s. tt) (λ s. record { at = s.at; names = (n, t) ∷ s.names }) (λ s. refl) (λ s. ((n, t) ∷ [], refl))
 
 -- ---- one after the other
 
@@ -186,6 +235,7 @@ module _ {A B : Type 0} (k : ℕ) (first then : Bool) (p : Parser A) (f : A → 
     local = λ W V s same. bind_local W V (p W s) (p V s) (rp.local W V s) same;
     inside = λ W s n none le. bind_inside W (p W s) n none (rp.inside W s n none le);
     past = past;
+    keeps = λ W s. keeps_on W s.names (p W s) f (λ a t. (rf a).keeps W t) (rp.keeps W s);
   }
 
 -- the first takes a word
@@ -207,6 +257,7 @@ reads_from_here {f} rf = record {
   local = λ W V s. (rf s.at).local W V s;
   inside = λ W s. (rf s.at).inside W s;
   past = λ W s. (rf s.at).past W s;
+  keeps = λ W s. (rf s.at).keeps W s;
 }
 
 -- a parser by the state in which it begins
@@ -216,6 +267,7 @@ reads_by_state f rf = record {
   local = λ W V s. (rf s).local W V s;
   inside = λ W s. (rf s).inside W s;
   past = λ W s. (rf s).past W s;
+  keeps = λ W s. (rf s).keeps W s;
 }
 
 -- what is chosen by the next word
@@ -227,6 +279,7 @@ reads_look f rf = record {
       ap (λ q. f q V s) e ∙ (rf (look_at W s)).local W V s same;
   inside = λ W s n none le. (rf (look_at W s)).inside W s n none (known_inside W s n none (omega arith));
   past = λ W s n none low le. (rf (look_at W s)).past W s n none low (known_inside W s n none (omega arith));
+  keeps = λ W s. (rf (look_at W s)).keeps W s;
 }
 
 pub reads_if : {A : Type 0} {k : ℕ} {moves : Bool} {p r : Parser A} (b : Bool) → Reads k moves p → Reads k moves r → Reads k moves (if_so b p r)
@@ -250,10 +303,40 @@ pub reads_any_name : {k : ℕ} {moves : Bool} → Reads k moves any_name
 unfolding any_name
 reads_any_name = reads_look (λ q. if_so (is_name q) take_name refuse) (λ q. reads_if_word is_name refl q reads_take_name reads_refuse)
 
+-- the end of a scope
+module _ {A B : Type 0} (g : State → A → State → B) where
+  abbrev ended : State → A → Parser B
+  ended outer a = λ W t. Ok (g outer a t, record { at = t.at; names = oldest (length outer.names) t.names })
+
+  same_place : (W : Words) (outer : State) (o : Outcome A) → place (and_then W o (ended outer)) ≡ place o
+  same_place W outer (Ok x) = refl
+  same_place W outer (Err e) = refl
+
+  no_words : (W V : Words) (outer : State) (o : Outcome A) → and_then V o (ended outer) ≡ and_then W o (ended outer)
+  no_words W V outer (Ok x) = refl
+  no_words W V outer (Err e) = refl
+
+  ended_past : (W : Words) (outer : State) (n : ℕ) (o : Outcome A) → Past n o → Past n (and_then W o (ended outer))
+  ended_past W outer n (Ok x) le = le
+  ended_past W outer n (Err e) le = tt
+
+  ended_keeps : (W : Words) (outer : State) (o : Outcome A) → Keeps outer.names o → Keeps outer.names (and_then W o (ended outer))
+  ended_keeps W outer (Ok x) h = ([], oldest_are outer.names x.1.names h)
+  ended_keeps W outer (Err e) h = tt
+
+  pub reads_to_scope : {k : ℕ} {moves : Bool} {p : Parser A} → Reads k moves p → Reads k moves (λ W s. and_then W (p W s) (ended s))
+  reads_to_scope {p} rp = record {
+    forward = λ W s. let same = same_place W s (p W s) in let le = rp.forward W s in omega arith;
+    local = λ W V s same. ap (λ o. and_then V o (ended s)) (rp.local W V s (λ i le. same i (let at = same_place W s (p W s) in omega arith))) ∙
+        no_words W V s (p W s);
+    inside = λ W s n none le. let same = same_place W s (p W s) in let le = rp.inside W s n none le in omega arith;
+    past = λ W s n none low le e. ended_past W s (suc s.at) (p W s) (rp.past W s n none low le e);
+    keeps = λ W s. ended_keeps W s (p W s) (rp.keeps W s);
+  }
+
 pub reads_scoped : {A : Type 0} {k : ℕ} {moves : Bool} {p : Parser A} → Reads k moves p → Reads k moves (scoped p)
 unfolding scoped
-reads_scoped {p} rp = reads_by_state (λ s. p >>= (λ a W' t. Ok (a, record { at = t.at; names = oldest (length s.names) t.names })))
-    (λ s. reads_bind rp (λ a. reads_names (λ t. a) (λ t. record { at = t.at; names = oldest (length s.names) t.names }) (λ t. refl)))
+reads_scoped rp = reads_to_scope (λ outer a t. a) rp
 
 -- ---- lists
 

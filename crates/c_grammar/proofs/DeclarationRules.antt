@@ -1,20 +1,25 @@
 -- Declarations go forward, are local and stay inside the words.
-use Rattle.std.proofs.Common.{ℕ, Bool, false, Option, refl}
+use Rattle.std.proofs.Common.{ℕ, Bool, false, Option, Some, None, [], ◌∷◌, refl}
 use Rattle.c_tree.specs.declared.tree.InitPart.{InitPart}
 use Rattle.c_expressions.specs.declared.grown.Specs.{Specs}
 use Rattle.c_expressions.specs.declared.grown.Declares.{Declares}
 use Rattle.c_expressions.specs.declared.grown.Mode.TheVariants as mode
 use Rattle.c_input.specs.declared.word.Sign.{Sign}
 use Rattle.c_input.specs.declared.word.Sign.TheVariants as sign
+use Rattle.c_input.specs.declared.word.Place.{Place as State}
 use Rattle.c_input.specs.Signs.{is_comma, is_semicolon}
 use Rattle.c_syntax.specs.Initialisers.{Inits}
 use Rattle.c_syntax.specs.Declarations.{declared, declare_name, init_by, part_of, part, next_part, all_parts, parts_after, parts_by, declaration, declaration_after_name}
-use Rattle.c_grammar.proofs.Combinators.{Reads, known, reads_pure, reads_skip, reads_names, reads_bind, reads_then, reads_from_here, reads_look, reads_expect, reads_many_words}
+use Rattle.c_grammar.proofs.Combinators.{Reads, Extends, extends_refl, known, reads_pure, reads_skip, reads_names, reads_bind, reads_then, reads_from_here, reads_look, reads_expect, reads_many_words}
 use Rattle.c_grammar.proofs.SpecifierRules.{reads_declaration_specs, reads_specs_after_name}
 use Rattle.c_grammar.proofs.InitialiserRules.{ReadsInits}
 
 pub reads_declare_name : {k : ℕ} (n : Option ℕ) (t : Bool) → Reads k false (declare_name n t)
-reads_declare_name n t = reads_names (λ s. tt) (declared n t) (λ s. refl)
+reads_declare_name n t = reads_names (λ s. tt) (declared n t) (λ s. refl) (more n)
+  where
+    more : (n : Option ℕ) (s : State) → Extends s.names (declared n t s).names
+    more (Some n) s = ((n, t) ∷ [], refl)
+    more None s = extends_refl s.names
 
 module _ (sub : Inits) (rs : ReadsInits sub) where
   pub reads_init_by : (d : Declares) (q : Sign) → Reads (known q) false (init_by sub d q)

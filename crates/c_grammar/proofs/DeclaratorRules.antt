@@ -1,17 +1,17 @@
 -- Declarators, parameters and type names go forward, are local and stay inside the words.
-use Rattle.std.proofs.Common.{ℕ, zero, suc, ◌-◌, ◌||◌, nat_lt, is_some, Bool, true, false, List, [], take, length, Option, Some, None, refl}
+use Rattle.std.proofs.Common.{ℕ, zero, suc, ◌-◌, ◌||◌, nat_lt, is_some, Bool, true, false, List, [], Option, Some, None, refl}
 use Rattle.c_tree.specs.declared.tree.DeclForm.TheVariants as form
 use Rattle.c_expressions.specs.declared.grown.Mode.{Mode}
 use Rattle.c_expressions.specs.declared.grown.Mode.TheVariants as mode
 use Rattle.c_expressions.specs.declared.grown.Declares.{Declares}
 use Rattle.c_input.specs.declared.word.Sign.{Sign}
 use Rattle.c_input.specs.declared.word.Sign.TheVariants as sign
-use Rattle.c_input.specs.Input.{Names, oldest, specifies, is_name}
+use Rattle.c_input.specs.Input.{specifies, is_name}
 use Rattle.c_input.specs.Parser.{◌>>=◌, pure, take_name, most_words}
 use Rattle.c_input.specs.Signs.{is_comma, is_close_paren, is_close_bracket}
 use Rattle.c_expressions.specs.Nest.{Nest}
-use Rattle.c_expressions.specs.Declarators.{is_ellipsis, is_qualifier, goes_on, leaf, Params, no_params, in_front, last_one, enclosed, taken, qualifiers, pointer, declare_param, parameter, type_name, parameters_from, parameters, end_list, some_listed, listed_by, listed, function_rest, is_empty, length_by, words_by, array_words, array_rest, paren_rest, open_by, named_by, unnamed_by, direct_by, longer, suffixes, direct, declarator_by, declarator}
-use Rattle.c_grammar.proofs.Combinators.{Reads, known, reads_pure, reads_refuse, reads_too_deep, reads_left_out, reads_skip, reads_take_name, reads_names, reads_declare, reads_bind, reads_then, reads_from_here, reads_by_state, reads_look, reads_if, reads_if_word, reads_expect, reads_many_words}
+use Rattle.c_expressions.specs.Declarators.{is_ellipsis, is_qualifier, goes_on, leaf, no_params, in_front, last_one, enclosed, taken, qualifiers, pointer, declare_param, parameter, type_name, parameters_from, parameters, some_listed, listed_by, listed, function_rest, is_empty, length_by, words_by, array_words, array_rest, paren_rest, open_by, named_by, unnamed_by, direct_by, longer, suffixes, direct, declarator_by, declarator}
+use Rattle.c_grammar.proofs.Combinators.{Reads, known, reads_pure, reads_refuse, reads_too_deep, reads_left_out, reads_skip, reads_take_name, reads_to_scope, reads_declare, reads_bind, reads_then, reads_from_here, reads_by_state, reads_look, reads_if, reads_if_word, reads_expect, reads_many_words}
 use Rattle.c_grammar.proofs.SpecifierRules.{ReadsNest, reads_declaration_specs, reads_qualifier_specs}
 
 pub reads_taken : {moves : Bool} → Reads 1 moves taken
@@ -51,18 +51,13 @@ module _ (sub : Nest) (rs : ReadsNest sub) where
       (reads_bind (reads_parameters_from n) (λ rest. reads_pure (in_front x rest))))))
       (reads_pure (last_one x false))))
 
-  reads_parameters : {k : ℕ} → Reads k false (parameters sub)
+  pub reads_parameters : {k : ℕ} → Reads k false (parameters sub)
   unfolding parameters
   reads_parameters = reads_by_state (λ s. parameters_from sub (most_words - s.at)) (λ s. reads_parameters_from (most_words - s.at))
 
-  reads_end_list : {k : ℕ} (outer : Names) (l : Params) → Reads k false (end_list sub outer l)
-  reads_end_list outer l = reads_names
-      (λ t. record { params = l.0.tree; height = l.0.height; variadic = l.1; names = take (length t.names - length outer) t.names })
-      (λ t. record { at = t.at; names = oldest (length outer) t.names }) (λ t. refl)
-
   reads_some_listed : {k : ℕ} → Reads k false (some_listed sub)
   unfolding some_listed
-  reads_some_listed = reads_by_state (λ s. parameters sub >>= end_list sub s.names) (λ s. reads_bind reads_parameters (reads_end_list s.names))
+  reads_some_listed = reads_to_scope _ reads_parameters
 
   reads_listed_by : (named : Bool) (q : Sign) → Reads (known q) false (listed_by sub named q)
   reads_listed_by named sign.CloseParen = reads_pure (record { params = []; height = 0; variadic = false; names = [] })

@@ -8,14 +8,14 @@ use Rattle.c_input.specs.declared.word.Sign.TheVariants as sign
 use Rattle.c_input.specs.Input.{Names}
 use Rattle.c_syntax.specs.Declarations.{init_by}
 use Rattle.c_syntax.specs.Statements.{Parts, parts_within}
-use Rattle.c_syntax.specs.FileScope.{limit, with_params, declare_params, definition_body, definition, external_by, external_rest, declared_by, external, item_by, file_item, is_no_end, file_items, translation_unit}
+use Rattle.c_syntax.specs.FileScope.{limit, or_none, with_params, declare_params, definition_body, definition, external_by, external_rest, declared_by, external, item_by, file_item, is_no_end, file_items, translation_unit}
 use Rattle.c_grammar.proofs.Combinators.{Reads, known, reads_pure, reads_skip, reads_names, reads_bind, reads_then, reads_from_here, reads_look, reads_scoped, reads_many}
 use Rattle.c_grammar.proofs.SpecifierRules.{reads_declaration_specs}
 use Rattle.c_grammar.proofs.DeclarationRules.{reads_declare_name, reads_init_by, reads_parts_after}
 use Rattle.c_grammar.proofs.StatementRules.{ReadsParts, reads_parts_within}
 
-reads_declare_params : {k : ℕ} (params : Option Names) → Reads k false (declare_params params)
-reads_declare_params params = reads_names (λ s. tt) (with_params params) (λ s. refl)
+pub reads_declare_params : {k : ℕ} (params : Option Names) → Reads k false (declare_params params)
+reads_declare_params params = reads_names (λ s. tt) (with_params params) (λ s. refl) (λ s. (or_none params, refl))
 
 module _ (sub : Parts) (rs : ReadsParts sub) where
   reads_definition_body : {k : ℕ} (params : Option Names) → Reads k false (definition_body sub params)

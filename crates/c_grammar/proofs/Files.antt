@@ -93,7 +93,7 @@ no_end_sign : (names : Names) (n : ℕ) (q : Sign) → is_no_end q ≡ true → 
 no_end_sign names n sign.Name e = no_end_name (is_type names n)
 no_end_sign names n _ e = e
 
-length_of_map : {A B : Type 0} (f : A → B) (xs : List A) → length (map f xs) ≡ length xs
+pub length_of_map : {A B : Type 0} (f : A → B) (xs : List A) → length (map f xs) ≡ length xs
 length_of_map f [] = refl
 length_of_map f (x ∷ xs) = ap suc (length_of_map f xs)
 

@@ -32,17 +32,17 @@ AllGive P (Err e) = Unit {0}
 pub record Gives {A : Type 0} (P : A → Type 0) (p : Parser A) : Type 0 where
   pub gives : (W : Words) (s : State) → AllGive P (p W s)
 
-gives_pure : {A : Type 0} {P : A → Type 0} (a : A) → P a → Gives P (pure a)
+pub gives_pure : {A : Type 0} {P : A → Type 0} (a : A) → P a → Gives P (pure a)
 gives_pure a h = record { gives = λ W s. h }
 
-gives_bind : {A B : Type 0} {P : B → Type 0} (p : Parser A) (f : A → Parser B) → ((a : A) → Gives P (f a)) → Gives P (p >>= f)
+pub gives_bind : {A B : Type 0} {P : B → Type 0} (p : Parser A) (f : A → Parser B) → ((a : A) → Gives P (f a)) → Gives P (p >>= f)
 gives_bind {A} {B} {P} p f gf = record { gives = λ W s. by W (p W s) }
   where
     by : (W : Words) (o : Outcome A) → AllGive P (and_then W o f)
     by W (Ok x) = (gf x.0).gives W x.1
     by W (Err e) = tt
 
-gives_then : {A B : Type 0} {P : B → Type 0} (p : Parser A) (r : Parser B) → Gives P r → Gives P (p >> r)
+pub gives_then : {A B : Type 0} {P : B → Type 0} (p : Parser A) (r : Parser B) → Gives P r → Gives P (p >> r)
 gives_then p r gr = gives_bind p (λ _. r) (λ _. gr)
 
 raise : (h below : ℕ) → h ≤ below → suc h ≤ suc below

@@ -10,3 +10,12 @@ pub mod FileRules
 pub mod ListRules
 pub mod Files
 pub mod HeightRules
+pub mod ExpressionTreesRead
+pub mod TreeLevels
+pub mod SpecifierTreesRead
+pub mod DeclaratorTreesRead
+pub mod LevelTreesRead
+pub mod DeclarationTreesRead
+pub mod StatementTreesRead
+pub mod FileTreesRead
+pub mod RoomRules

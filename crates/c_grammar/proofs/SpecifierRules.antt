@@ -118,6 +118,7 @@ module _ (sub : Nest) (rs : ReadsNest sub) where
         local = anyhow.local;
         inside = λ W s n none le. anyhow.inside W s n none (omega arith);
         past = λ W s n none low le e. past_some more end W s n none low (omega arith) (more false (look_at W s)) refl;
+        keeps = anyhow.keeps;
       }
 
   pub reads_declaration_specs : {k : ℕ} {moves : Bool} → Reads k moves (declaration_specs sub)

@@ -151,7 +151,7 @@ module _ (sub : Parts) (rs : ReadsParts sub) where
   unfolding block
   reads_block at = reads_then reads_skip (reads_bind reads_block_items (λ items. reads_then (reads_expect is_close_brace refl) (reads_pure _)))
 
-  reads_compound_by : {moves : Bool} (at : ℕ) (q : Sign) → Reads 1 moves (compound_by sub at q)
+  pub reads_compound_by : {moves : Bool} (at : ℕ) (q : Sign) → Reads 1 moves (compound_by sub at q)
   reads_compound_by at sign.OpenBrace = reads_block at
   reads_compound_by at sign.If = reads_if_statement at
   reads_compound_by at sign.Switch = reads_switch at

@@ -10,6 +10,7 @@ use Rattle.c_input.specs.Parser.{Stop, Outcome}
 use Rattle.c_syntax.specs.FileScope.{translation_unit, start}
 use Rattle.c_grammar.specs.Places.{stop_place}
 use Rattle.c_grammar.specs.Lists.{most_tokens}
+use Rattle.c_grammar.specs.FileTrees.{Spells}
 
 abbrev pub outcome : List Word → Outcome Tree
 outcome ws = translation_unit (words_of ws) start
@@ -26,3 +27,8 @@ StopIsInFile = (ws : List Word) (e : Stop) → outcome ws ≡ Err e → stop_pla
 abbrev pub TreeIsOfFile : Type 0
 TreeIsOfFile = (file : Text) (tokens : List Token) (tree : Tree) (end : State) → length tokens ≤ most_tokens →
     outcome (word_list file tokens) ≡ Ok (tree, end) → end.at ≡ length tokens
+
+-- a tree is one of the file's words by the productions of Annex A.2
+abbrev pub TreeIsDerived : Type 0
+TreeIsDerived = (file : Text) (tokens : List Token) (tree : Tree) (end : State) → length tokens ≤ most_tokens →
+    outcome (word_list file tokens) ≡ Ok (tree, end) → Spells 0 (word_list file tokens) tree

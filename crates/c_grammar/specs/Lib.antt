@@ -1,3 +1,11 @@
 pub mod Places
 pub mod Lists
 pub mod Laws
+pub mod Below
+pub mod SpecifierTrees
+pub mod DeclaratorTrees
+pub mod ExpressionTrees
+pub mod LevelTrees
+pub mod DeclarationTrees
+pub mod StatementTrees
+pub mod FileTrees

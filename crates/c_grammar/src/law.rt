@@ -1,6 +1,6 @@
 //! Laws of the definitions: each function's contract is one.
 
-ghost use Rattle.c_grammar.specs.Laws.{StopIsFinal, StopIsInFile, TreeIsOfFile};
+ghost use Rattle.c_grammar.specs.Laws.{StopIsFinal, StopIsInFile, TreeIsDerived, TreeIsOfFile};
 ghost use Rattle.c_grammar.specs.Lists.{ListsAreByRule};
 ghost use Rattle.c_grammar.specs.Places.{GoesForward, IsLocal, StaysInside};
 ghost use Rattle.c_syntax.specs.FileScope.{translation_unit};
@@ -23,4 +23,9 @@ pub fn reads_to_the_end()
 /// Each list is the one that its rule without a bound gives, on each file of at most 2^20 tokens.
 pub fn bound_ends_no_list()
     ensures { ListsAreByRule }
+{}
+
+/// A file's tree is one of its words by the productions of C11 Annex A.2.
+pub fn trees_are_derived()
+    ensures { TreeIsDerived }
 {}
