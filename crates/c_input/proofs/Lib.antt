@@ -4,4 +4,3 @@ pub mod Scopes
 pub mod Lists
 pub mod Rows
 pub mod Seen
-pub mod Texts

@@ -5,9 +5,10 @@ use denote.Ref.{Bor}
 use Rattle.std.proofs.lemmas.List.{take-append-drop, drop_more, length-take-le, take_more}
 use Rattle.std.proofs.lemmas.Slice.Eq.{bytes_eq-Decides}
 use Rattle.c_lex.specs.Bytes.{Text}
+use Rattle.c_lex.specs.Source.{text_of}
 use Rattle.c_lex.specs.declared.token.Token.{Token}
 use Rattle.c_input.specs.Input.{Sign, Word}
-use Rattle.c_input.specs.Words.{text_of, is_name_kind, first_like, number_of}
+use Rattle.c_input.specs.Words.{is_name_kind, first_like, number_of}
 use Rattle.c_input.specs.Numbers.{held, numbered}
 
 abbrev pub word : Sign → ℕ → Word

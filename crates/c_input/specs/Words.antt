@@ -1,14 +1,12 @@
 -- The words of a file: what the grammar sees of each token.
-use Rattle.std.specs.Prelude.{ℕ, suc, Bool, true, false, if◌then◌else◌, List, [], ◌∷◌, take, drop, slice_get, bytes_eq, codes, map, ◌==◌}
+use Rattle.std.specs.Prelude.{ℕ, suc, Bool, true, false, if◌then◌else◌, List, [], ◌∷◌, take, slice_get, bytes_eq, codes, map, ◌==◌}
 use Rattle.c_lex.specs.Bytes.{Text}
+use Rattle.c_lex.specs.Source.{text_of}
 use Rattle.c_lex.specs.declared.token.Token.{Token}
 use Rattle.c_lex.specs.declared.token.TokenKind.{TokenKind}
 use Rattle.c_lex.specs.declared.token.TokenKind.TheVariants as kind
 use Rattle.c_input.specs.declared.word.Sign.TheVariants as sign
 use Rattle.c_input.specs.Input.{Sign, Word, Words}
-
-abbrev pub text_of : Text → Token → Text
-text_of file t = take t.len (drop t.at file)
 
 abbrev pub Entry : Type 0
 Entry = Text × Sign

@@ -77,101 +77,18 @@ pub fn no_room(words: &[Word], place: &Place, begins: bool) -> SyntaxStop
     }
 }
 
+/// Takes the next word, which is to have the sign that is wanted.
 #[tactic(auto, unfolding(crate::specs::Parser::expect, crate::specs::Parser::refuse))]
-pub fn open_paren(words: &[Word], place: &mut Place) -> Result<(), SyntaxStop>
-    requires { length words.now ≤ 1048576 }
-    ensures { Gives (parser.expect signs.is_open_paren (words_of words.now) place.old) result place.new }
+pub fn expect(words: &[Word], place: &mut Place, wanted: Sign) -> Result<(), SyntaxStop>
+    requires short { length words.now ≤ 1048576 }
+    requires a_word { wanted ≢ Sign.Eof }
+    ensures { Gives (parser.expect (signs.is wanted) (words_of words.now) place.old) result place.new }
 {
-    match sign(words, place) {
-        Sign::OpenParen => {
-            skip(words, place);
-            Ok(())
-        }
-        _ => Err(refuse(words, place)),
-    }
-}
-
-#[tactic(auto, unfolding(crate::specs::Parser::expect, crate::specs::Parser::refuse))]
-pub fn close_paren(words: &[Word], place: &mut Place) -> Result<(), SyntaxStop>
-    requires { length words.now ≤ 1048576 }
-    ensures { Gives (parser.expect signs.is_close_paren (words_of words.now) place.old) result place.new }
-{
-    match sign(words, place) {
-        Sign::CloseParen => {
-            skip(words, place);
-            Ok(())
-        }
-        _ => Err(refuse(words, place)),
-    }
-}
-
-#[tactic(auto, unfolding(crate::specs::Parser::expect, crate::specs::Parser::refuse))]
-pub fn close_bracket(words: &[Word], place: &mut Place) -> Result<(), SyntaxStop>
-    requires { length words.now ≤ 1048576 }
-    ensures { Gives (parser.expect signs.is_close_bracket (words_of words.now) place.old) result place.new }
-{
-    match sign(words, place) {
-        Sign::CloseBracket => {
-            skip(words, place);
-            Ok(())
-        }
-        _ => Err(refuse(words, place)),
-    }
-}
-
-#[tactic(auto, unfolding(crate::specs::Parser::expect, crate::specs::Parser::refuse))]
-pub fn close_brace(words: &[Word], place: &mut Place) -> Result<(), SyntaxStop>
-    requires { length words.now ≤ 1048576 }
-    ensures { Gives (parser.expect signs.is_close_brace (words_of words.now) place.old) result place.new }
-{
-    match sign(words, place) {
-        Sign::CloseBrace => {
-            skip(words, place);
-            Ok(())
-        }
-        _ => Err(refuse(words, place)),
-    }
-}
-
-#[tactic(auto, unfolding(crate::specs::Parser::expect, crate::specs::Parser::refuse))]
-pub fn colon(words: &[Word], place: &mut Place) -> Result<(), SyntaxStop>
-    requires { length words.now ≤ 1048576 }
-    ensures { Gives (parser.expect signs.is_colon (words_of words.now) place.old) result place.new }
-{
-    match sign(words, place) {
-        Sign::Colon => {
-            skip(words, place);
-            Ok(())
-        }
-        _ => Err(refuse(words, place)),
-    }
-}
-
-#[tactic(auto, unfolding(crate::specs::Parser::expect, crate::specs::Parser::refuse))]
-pub fn semicolon(words: &[Word], place: &mut Place) -> Result<(), SyntaxStop>
-    requires { length words.now ≤ 1048576 }
-    ensures { Gives (parser.expect signs.is_semicolon (words_of words.now) place.old) result place.new }
-{
-    match sign(words, place) {
-        Sign::Semicolon => {
-            skip(words, place);
-            Ok(())
-        }
-        _ => Err(refuse(words, place)),
-    }
-}
-
-#[tactic(auto, unfolding(crate::specs::Parser::expect, crate::specs::Parser::refuse))]
-pub fn while_word(words: &[Word], place: &mut Place) -> Result<(), SyntaxStop>
-    requires { length words.now ≤ 1048576 }
-    ensures { Gives (parser.expect signs.is_while (words_of words.now) place.old) result place.new }
-{
-    match sign(words, place) {
-        Sign::While => {
-            skip(words, place);
-            Ok(())
-        }
-        _ => Err(refuse(words, place)),
+    if sign(words, place) == wanted {
+        skip(words, place);
+        Ok(())
+    } else {
+        Err(refuse(words, place))
     }
 }
 
@@ -290,37 +207,25 @@ pub fn specifies(typed: bool, sign: Sign) -> bool
 pub fn is_comma(sign: Sign) -> bool
     ensures { result ≡ signs.is_comma sign }
 {
-    match sign {
-        Sign::Comma => true,
-        _ => false,
-    }
+    sign == Sign::Comma
 }
 
 pub fn is_semicolon(sign: Sign) -> bool
     ensures { result ≡ signs.is_semicolon sign }
 {
-    match sign {
-        Sign::Semicolon => true,
-        _ => false,
-    }
+    sign == Sign::Semicolon
 }
 
 pub fn is_close_brace(sign: Sign) -> bool
     ensures { result ≡ signs.is_close_brace sign }
 {
-    match sign {
-        Sign::CloseBrace => true,
-        _ => false,
-    }
+    sign == Sign::CloseBrace
 }
 
 pub fn is_close_paren(sign: Sign) -> bool
     ensures { result ≡ signs.is_close_paren sign }
 {
-    match sign {
-        Sign::CloseParen => true,
-        _ => false,
-    }
+    sign == Sign::CloseParen
 }
 
 pub fn is_name(sign: Sign) -> bool

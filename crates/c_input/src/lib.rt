@@ -15,9 +15,9 @@ mod words;
 
 pub use error::SyntaxStop;
 pub use input::{
-    any_name, begins_expression, binds, close_brace, close_bracket, close_paren, colon,
-    is_close_brace, is_close_paren, is_comma, is_name, is_semicolon, left_out, no_room, open_paren,
-    qualifies, refuse, semicolon, sign, skip, specifies, take_name, too_deep, wants, while_word,
+    any_name, begins_expression, binds, expect, is_close_brace, is_close_paren, is_comma, is_name,
+    is_semicolon, left_out, no_room, qualifies, refuse, sign, skip, specifies, take_name, too_deep,
+    wants,
 };
 pub use measured::Measured;
 pub use scope::Scope;

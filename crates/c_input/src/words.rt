@@ -10,15 +10,6 @@ use c_lex::{Token, TokenKind};
 use std::alloc::{AllocError, Global};
 use std::collections::BTreeMap;
 
-/// The text of a token, as far as it lies in the file.
-#[tactic(auto, using(crate::proofs::Texts::cut))]
-fn text_of<'a>(file: &'a [u8], token: &Token) -> &'a [u8]
-    ensures { result.now ≡ spec.text_of file.now token.now }
-{
-    let rest = &file[(token.at as usize).min(file.len())..];
-    &rest[..(token.len as usize).min(rest.len())]
-}
-
 /// The number of a name, which is the one at hand where the name is new.
 fn name_number<'a>(
     numbers: &mut BTreeMap<&'a [u8], u32>,
@@ -62,7 +53,7 @@ pub fn word_list(alloc: Global, file: &[u8], tokens: &[Token]) -> Result<Vec<Wor
     let mut words = Vec::with_capacity(alloc, tokens.len())?;
     let mut numbers: BTreeMap<&[u8], u32> = BTreeMap::new(alloc);
     for token in tokens {
-        let text = text_of(file, token);
+        let text = token.text(file);
         let at = words.len() as u32;
         let name = number(&mut numbers, token.kind, text, at)?;
         let sign = kind_sign(token.kind, text);

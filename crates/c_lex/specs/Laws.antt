@@ -1,6 +1,7 @@
 -- What follows from the definitions, for files and tokens as they stand.
-use Rattle.std.specs.Prelude.{◌≡◌, ◌<◌, ◌≤◌, ◌^◌, ℕ, ◌+◌, true, false, List, [], ◌∷◌, length, take, drop}
+use Rattle.std.specs.Prelude.{◌≡◌, ◌<◌, ◌≤◌, ◌^◌, ℕ, ◌+◌, true, false, List, [], ◌∷◌, length}
 use Rattle.c_lex.specs.Bytes.{Text}
+use Rattle.c_lex.specs.Source.{text_of}
 use Rattle.c_lex.specs.Number.{is_integer, integer_value, is_floating}
 use Rattle.c_lex.specs.Vocabulary.{is_among, keywords}
 use Rattle.c_lex.specs.Reading.{Stops, Lexed, start}
@@ -35,7 +36,7 @@ IsOfKind k w = Unit {0}
 abbrev pub AreTokensFrom : Text → ℕ → List Token → Type 0
 AreTokensFrom file from [] = Unit {0}
 AreTokensFrom file from (t ∷ ts) =
-    (from ≤ t.at) × (t.at + t.len ≤ length file) × IsOfKind t.kind (take t.len (drop t.at file)) × AreTokensFrom file (t.at + t.len) ts
+    (from ≤ t.at) × (t.at + t.len ≤ length file) × IsOfKind t.kind (text_of file t) × AreTokensFrom file (t.at + t.len) ts
 
 abbrev pub TokensAreSlices : Type 0
 TokensAreSlices = (file : Text) (ts : List Token) → Lexed file ts → AreTokensFrom file 0 ts

@@ -26,4 +26,4 @@ pub use law::{
     characters_by_rule, literals_by_rule, longest_match, one_reading, tokens_are_slices,
 };
 pub use scan::tokens;
-pub use token::{Place, Token, TokenKind};
+pub use token::{LONGEST, Place, Token, TokenKind};

@@ -5,6 +5,7 @@ ghost use Rattle.std.specs.Option.{option_to_list};
 ghost use Rattle.c_lex.specs.Bytes as bytes;
 ghost use Rattle.c_lex.specs.Piece as pieces;
 ghost use Rattle.c_lex.specs.Reading as spec;
+ghost use Rattle.c_lex.specs.Source.{longest};
 
 use crate::class::{Class, byte, is_blank, is_plain, past};
 use crate::error::LexStop;
@@ -329,7 +330,7 @@ fn keep(tokens: &mut Vec<Token>, token: Option<Token>) -> Result<(), LexStop>
 
 /// The tokens of a preprocessed file of at most 2^20 bytes, in order, or the first stop.
 pub fn tokens(alloc: Global, file: &[u8]) -> Result<Vec<Token>, LexStop>
-    requires { length file.now ≤ 1048576 }
+    requires { length file.now ≤ longest }
     ensures lexed { IfOk result (λ v. spec.Lexed file.now v.items) }
     ensures refused { IfErr result (λ e. spec.Refused file.now e) }
 {

@@ -1,3 +1,11 @@
+//! Tokens, and how long the file may be in which they stand.
+
+ghost use Rattle.std.specs.Prelude.{◌≡◌};
+ghost use Rattle.c_lex.specs.Source as spec;
+
+/// The most bytes of a file, and so the most tokens.
+pub const LONGEST: usize = 1_048_576;
+
 /// Where a byte stands for its reader: what the last line marker before it says. Offsets and lengths in bytes.
 #[derive(Clone, Copy, Debug, PartialEq, Eq)]
 pub struct Place {
@@ -33,4 +41,15 @@ pub struct Token {
     pub at: u32,
     pub len: u32,
     pub place: Place,
+}
+
+impl Token {
+    /// The token's text, as far as it lies in the file.
+    #[tactic(auto, using(crate::proofs::Texts::cut))]
+    pub fn text<'a>(&self, file: &'a [u8]) -> &'a [u8]
+        ensures { result.now ≡ spec.text_of file.now self.now }
+    {
+        let rest = &file[(self.at as usize).min(file.len())..];
+        &rest[..(self.len as usize).min(rest.len())]
+    }
 }

@@ -5,15 +5,17 @@
 //! Stands on `sqlite_items`, whose lists and boxes contracts see as what they hold.
 #![tactic(auto)]
 
+mod bit_fields;
 mod compare;
 mod convert;
 mod size;
 mod structs;
 mod types;
 
+pub use bit_fields::{field_promote, field_range, field_wrap};
 pub use compare::{copy_type, same_type};
 pub use convert::{is_signed, promote, range, usual, width, wrap};
-pub use size::{TypeStop, align_bits, size_bits};
+pub use size::{TypeStop, align_bits, kept_size, size_bits};
 pub use structs::lay_out;
 pub use types::{CType, Declared, IntKind, Layout, Member, StructId, StructInfo};
 

@@ -8,13 +8,14 @@ use Rattle.std.proofs.lemmas.Slice.Eq.{bytes_eq-Decides}
 use Rattle.std.proofs.lemmas.Option.{slice_get_cases, slice_get_past}
 use Rattle.std.proofs.lemmas.Map.Steps.{length-le_from_distinct_below}
 use Rattle.c_lex.specs.Bytes.{Text}
+use Rattle.c_lex.specs.Source.{option_text, text_in}
 use Rattle.c_lex.specs.declared.token.Token.{Token}
 use Rattle.c_tree.specs.declared.tree.Item.{Item}
 use Rattle.c_tree.specs.declared.tree.Item.TheVariants as item
 use Rattle.c_tree.specs.declared.tree.Stmt.{Stmt}
 use Rattle.c_tree.specs.declared.tree.Unit.{Unit as Tree}
 use Rattle.program.specs.declared.expressions.Expr.{Expr}
-use Rattle.normal_form.specs.ConstantForm.{all_definitions, constant_of, definition_of, definitions, if_names_differ, is_word, name_of, names_differ, only_statement, option_text, place_of, returned, returning, text_in}
+use Rattle.normal_form.specs.ConstantForm.{all_definitions, constant_of, definition_of, definitions, if_names_differ, is_word, name_of, names_differ, only_statement, place_of, returned, returning}
 use Rattle.normal_form.specs.declared.constant.Returning.{Returning}
 use lib.Chars.{codes}
 

@@ -5,7 +5,7 @@ use Rattle.std.proofs.lemmas.List.Elements.{Contains-append_left, Contains-appen
 use Rattle.program.specs.declared.sites.Site.{Site}
 use Rattle.normal_form.specs.ConstantNorm.{norm}
 use Rattle.normal_form.specs.declared.constant.Returning.{Returning}
-use Rattle.c_meaning.specs.ConstantExecution.{Config, initial, Executes, IsUndefinedAt}
+use Rattle.constant_meaning.specs.ConstantExecution.{Config, initial, Executes, IsUndefinedAt}
 use Rattle.iterate.specs.ConstantRun.{LoneRun}
 use Rattle.iterate.specs.declared.constant.EntryResult.{EntryResult}
 use Rattle.iterate.proofs.ConstantRuns.{lone_run_is_sound, unique}

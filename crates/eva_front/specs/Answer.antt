@@ -4,7 +4,7 @@ use lib.Chars.{codes}
 use Rattle.program.specs.declared.sites.Site.{Site}
 use Rattle.normal_form.specs.ConstantNorm.{norm}
 use Rattle.normal_form.specs.declared.constant.Returning.{Returning}
-use Rattle.c_meaning.specs.ConstantExecution.{Config, initial, Executes, IsUndefinedAt}
+use Rattle.constant_meaning.specs.ConstantExecution.{Config, initial, Executes, IsUndefinedAt}
 use Rattle.iterate.specs.ConstantRun.{LoneRun}
 use Rattle.iterate.specs.declared.constant.EntryResult.{EntryResult}
 use Rattle.eva_front.specs.declared.refusals.Refusal.{Refusal}

@@ -1,5 +1,6 @@
 -- What the front end makes of a file: definitions, or why it is refused.
 use Rattle.std.specs.Prelude.{◌≡◌, ℕ, ◌<◌, ◌≤◌, List, length, Option, Some, None, Ok, Err}
+use Rattle.c_lex.specs.Source.{longest}
 use Rattle.c_lex.specs.Reading.{Lexed, Refused}
 use Rattle.c_lex.specs.declared.error.LexStop.{LexStop}
 use Rattle.c_lex.specs.declared.token.Token.{Token}
@@ -15,10 +16,6 @@ use Rattle.eva_front.specs.Refusals.{lex_refusal, place_of}
 use Rattle.eva_front.specs.declared.refusals.Layer.TheVariants as layer
 use Rattle.eva_front.specs.declared.refusals.Refusal.{Refusal}
 use Rattle.eva_front.specs.declared.refusals.Refusal.TheVariants.{TooLong, Stopped, NotOfForm}
-
--- the greatest length of a file in bytes
-abbrev pub longest : ℕ
-longest = 1048576
 
 -- what the grammar makes of the tokens
 abbrev pub parsed : List ℕ → List Token → Outcome Tree

@@ -6,14 +6,11 @@ ghost use Rattle.eva_front.specs.declared.front_end.FileStop.TheVariants.{Memory
 ghost use Rattle.eva_front.specs.declared.refusals.Refusal.{Refusal as Why};
 
 use crate::refusals::{Layer, Refusal, lex_refusal, place_of};
-use c_lex::{Token, tokens};
+use c_lex::{LONGEST, Token, tokens};
 use c_syntax::{SyntaxStop, Unit, parse};
 use normal_form::{Returning, definitions};
 use sqlite_items::Items;
 use std::alloc::{AllocError, Global};
-
-/// The greatest length of a file in bytes.
-pub const LONGEST_FILE: usize = 1_048_576;
 
 /// A file's tokens and their tree.
 #[derive(Drop)]
@@ -72,7 +69,7 @@ fn read_tree(alloc: Global, file: &[u8]) -> Result<ParsedFile, FileStop>
     ensures tree { IfOk result (λ f. HasTree file.now f.tokens.items f.tree) }
     ensures refused { IfErr result (λ e. (r : Why) → e ≡ RefusedFor r → HasNoTree file.now r) }
 {
-    if file.len() > LONGEST_FILE {
+    if file.len() > LONGEST {
         return Err(FileStop::Refused(Refusal::TooLong));
     }
     let found = match tokens(alloc, file) {

@@ -2,8 +2,8 @@ ghost use Rattle.std.specs.Prelude.{◌≡◌, ℕ, ◌≤◌, ◌<◌, take, le
 ghost use Rattle.eva_front.specs.Outside.{Appends, HasCause, Rose};
 ghost use Rattle.eva_front.specs.declared.streams.ReadStop.TheVariants.{Fault as ReadFault};
 
-use crate::front_end::LONGEST_FILE;
 use crate::outside::{Failed, Sink, Source};
+use c_lex::LONGEST;
 use std::alloc::{AllocError, Global};
 
 /// Why a file wasn't read.
@@ -34,8 +34,8 @@ fn read_rest<S: Source>(alloc: Global, source: &mut S) -> Result<Vec<u8>, ReadSt
 {
     let mut file = Vec::new(alloc);
     let mut buffer = [0u8; 4096];
-    'reading: while file.len() <= LONGEST_FILE {
-        let room = buffer.len().min(LONGEST_FILE + 1 - file.len());
+    'reading: while file.len() <= LONGEST {
+        let room = buffer.len().min(LONGEST + 1 - file.len());
         let count = match source.read(&mut buffer[..room]) {
             Ok(count) => count,
             Err(Failed) => return Err(ReadStop::Fault),

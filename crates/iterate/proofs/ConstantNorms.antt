@@ -11,8 +11,8 @@ use Rattle.program.specs.Numbers.{count_expr}
 use Rattle.program.proofs.Equations.{count_expr_const}
 use Rattle.normal_form.specs.declared.constant.Returning.{Returning}
 use Rattle.normal_form.specs.ConstantNorm.{is_main, set_node, return_node, norm}
-use Rattle.c_meaning.specs.ConstantValue.{IsConstant}
-use Rattle.c_meaning.specs.ConstantExecution.{IsResultNode, IsResultFunction}
+use Rattle.constant_meaning.specs.ConstantValue.{IsConstant}
+use Rattle.constant_meaning.specs.ConstantExecution.{IsResultNode, IsResultFunction}
 use Rattle.normal_form.proofs.ConstantEquations.{isconstant_const_is}
 
 -- the nodes of main, and of another function

@@ -12,9 +12,9 @@ use Rattle.program.specs.declared.graph.Function.{Function}
 use Rattle.program.specs.declared.sites.Kind.{Kind}
 use Rattle.program.specs.declared.sites.Site.{Site}
 use Rattle.program.specs.Numbers.{count_expr}
-use Rattle.c_meaning.specs.declared.constant.Undefined.{Undefined}
-use Rattle.c_meaning.specs.ConstantValue.{negation, operation, undefined_at, go_on, value}
-use Rattle.c_meaning.specs.ConstantExecution.{set_result, Config, initial, Step, Executes, here, on, IsUndefinedAt, Returns}
+use Rattle.constant_meaning.specs.declared.constant.Undefined.{Undefined}
+use Rattle.constant_meaning.specs.ConstantValue.{negation, operation, undefined_at, go_on, value}
+use Rattle.constant_meaning.specs.ConstantExecution.{set_result, Config, initial, Step, Executes, here, on, IsUndefinedAt, Returns}
 use Rattle.iterate.specs.declared.constant.State.TheVariants.{Bottom, Live}
 use Rattle.iterate.specs.declared.constant.EntryResult.{EntryResult}
 use Rattle.iterate.specs.ConstantRun.{Left, left_at, and_then, left, sites, RunFrom, goes_on, stops, ends, LoneRun}

@@ -7,9 +7,9 @@ use Rattle.program.specs.declared.instructions.Instr.TheVariants.{Set, Return}
 use Rattle.program.specs.declared.graph.Node.{Node}
 use Rattle.program.specs.declared.graph.Function.{Function}
 use Rattle.program.specs.declared.sites.Site.{Site}
-use Rattle.c_meaning.specs.declared.constant.Undefined.{Undefined}
-use Rattle.c_meaning.specs.ConstantValue.{value}
-use Rattle.c_meaning.specs.ConstantExecution.{set_result, SetsResult, IsResultNode}
+use Rattle.constant_meaning.specs.declared.constant.Undefined.{Undefined}
+use Rattle.constant_meaning.specs.ConstantValue.{value}
+use Rattle.constant_meaning.specs.ConstantExecution.{set_result, SetsResult, IsResultNode}
 use Rattle.iterate.specs.declared.constant.State.TheVariants.{Bottom, Live}
 use Rattle.iterate.specs.declared.constant.EntryResult.{EntryResult}
 use Rattle.iterate.specs.ConstantRun.{Left, left, sites, RunFrom, goes_on, stops, ends, LoneRun}

@@ -8,8 +8,8 @@ use Rattle.program.specs.declared.graph.Function.{Function}
 use Rattle.program.specs.declared.sites.Kind.{Kind}
 use Rattle.program.specs.declared.sites.Site.{Site}
 use Rattle.program.specs.Numbers.{count_expr}
-use Rattle.c_meaning.specs.ConstantValue.{negation, operation}
-use Rattle.c_meaning.specs.ConstantExecution.{set_result}
+use Rattle.constant_meaning.specs.ConstantValue.{negation, operation}
+use Rattle.constant_meaning.specs.ConstantExecution.{set_result}
 use Rattle.iterate.specs.declared.constant.State.TheVariants.{Bottom, Live}
 use Rattle.iterate.specs.declared.constant.EntryResult.{EntryResult}
 

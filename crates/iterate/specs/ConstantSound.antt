@@ -2,7 +2,7 @@
 use Rattle.std.specs.Prelude.{◌≡◌, ℕ, Contains}
 use Rattle.program.specs.declared.graph.Function.{Function}
 use Rattle.program.specs.declared.sites.Site.{Site}
-use Rattle.c_meaning.specs.ConstantExecution.{Config, initial, Executes, IsUndefinedAt, Returns}
+use Rattle.constant_meaning.specs.ConstantExecution.{Config, initial, Executes, IsUndefinedAt, Returns}
 use Rattle.iterate.specs.declared.constant.State.TheVariants.{Live}
 use Rattle.iterate.specs.declared.constant.EntryResult.{EntryResult}
 

@@ -1,11 +1,11 @@
 //! The lone run of a function of `program` that sets its result to constant expressions.
 
 ghost use Rattle.std.specs.Prelude.{◌≡◌, ◌<◌, [], ◌∷◌, length, slice_get, IfOk, Some};
-ghost use Rattle.c_meaning.specs.ConstantExecution.{IsResultFunction};
+ghost use Rattle.constant_meaning.specs.ConstantExecution.{IsResultFunction};
 ghost use Rattle.iterate.specs.ConstantRun.{LoneRun};
 ghost use Rattle.iterate.specs.ConstantSound.{IsSound};
 
-use c_meaning::{Undefined, evaluate};
+use constant_meaning::{Undefined, evaluate};
 use program::{Function, Instr, Node, Site};
 use sqlite_items::Items;
 use std::alloc::{AllocError, Global};

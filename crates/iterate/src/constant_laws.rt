@@ -1,6 +1,6 @@
 ghost use Rattle.std.specs.Prelude.{◌≡◌, ◌+◌, ◌<◌, ◌^◌, ℕ};
-ghost use Rattle.c_meaning.specs.ConstantExecution.{IsResultFunction};
-ghost use Rattle.c_meaning.specs.ConstantValue.{IsConstant};
+ghost use Rattle.constant_meaning.specs.ConstantExecution.{IsResultFunction};
+ghost use Rattle.constant_meaning.specs.ConstantValue.{IsConstant};
 ghost use Rattle.iterate.specs.ConstantRun.{LoneRun};
 ghost use Rattle.iterate.specs.declared.constant.EntryResult.{EntryResult};
 ghost use Rattle.normal_form.specs.ConstantNorm.{norm};

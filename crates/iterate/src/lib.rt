@@ -1,7 +1,7 @@
 //! The lone run of one entry function: a fixed point over its graph, one node at a time.
 //!
 //! `analyse_entry` gives the lone run of `specs/ConstantRun`: its alarms, its end state and its turns. Wherever an
-//! execution of the function is undefined, that place is among the alarms. Stands on the meaning of `c_meaning`.
+//! execution of the function is undefined, that place is among the alarms. Stands on the meaning of `constant_meaning`.
 #![tactic(auto)]
 
 mod constant;

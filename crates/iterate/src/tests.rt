@@ -1,6 +1,6 @@
 ghost use Rattle.std.specs.Prelude.{◌≡◌, ◌<◌, IfOk};
-ghost use Rattle.c_meaning.specs.ConstantExecution.{IsResultFunction};
-ghost use Rattle.c_meaning.specs.ConstantValue.{IsConstant};
+ghost use Rattle.constant_meaning.specs.ConstantExecution.{IsResultFunction};
+ghost use Rattle.constant_meaning.specs.ConstantValue.{IsConstant};
 ghost use Rattle.program.specs.Numbers.{count_expr};
 
 use crate::{State, analyse_entry, constant_norm_is_taken, constant_run_is_unique};

@@ -1,9 +1,10 @@
 -- Which files are lists of functions `int NAME(void) { return E; }` that return constants.
-use Rattle.std.specs.Prelude.{ℕ, ◌+◌, ◌<◌, ◌^◌, nat_lt, pos, Bool, true, false, not, ◌&&◌, if◌then◌else◌, List, [], ◌∷◌, slice_get, bytes_eq, Option, Some, None, option_and_then, take, drop}
+use Rattle.std.specs.Prelude.{ℕ, ◌+◌, ◌<◌, ◌^◌, nat_lt, pos, Bool, true, false, not, ◌&&◌, if◌then◌else◌, List, [], ◌∷◌, slice_get, bytes_eq, Option, Some, None, option_and_then}
 use Rattle.std.specs.Option.{option_map}
 use Rattle.std.specs.List.{list_any}
 use lib.Chars.{codes}
 use Rattle.c_lex.specs.Bytes.{Text}
+use Rattle.c_lex.specs.Source.{text_in}
 use Rattle.c_lex.specs.Constant.{int_constant}
 use Rattle.c_lex.specs.declared.constant.IntConstant.{IntConstant}
 use Rattle.c_lex.specs.declared.constant.Longs.{Longs}
@@ -82,14 +83,6 @@ abbrev pub constant_of : (ℕ → Text) → Ex → Option Expr
 constant_of text e = constant_at text e.at e.form
 
 -- ---- a definition
-
--- the text of a token of the file
-abbrev pub option_text : Text → Option Token → Text
-option_text file (Some t) = take t.len (drop t.at file)
-option_text file None = []
-
-abbrev pub text_in : Text → List Token → ℕ → Text
-text_in file tokens i = option_text file (slice_get tokens i)
 
 -- the token of the only specifier, where it is one word (6.7)
 abbrev pub one_word : List Spec → Option ℕ

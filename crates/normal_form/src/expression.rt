@@ -1,6 +1,7 @@
 //! The expressions of int constants, brackets, unary `-` and binary `+ - * /`, from the tree.
 
 ghost use Rattle.std.specs.Prelude.{◌≡◌, ◌+◌, ◌<◌, ◌≤◌, ◌^◌, ◌↔◌, IfOk, IsTrue, MatchOption};
+ghost use Rattle.c_lex.specs.Source.{text_in};
 ghost use Rattle.c_lex.specs.Constant.{int_constant};
 ghost use Rattle.normal_form.specs.ConstantExpression.{IsConstant};
 ghost use Rattle.normal_form.specs.ConstantForm as spec;
@@ -15,13 +16,10 @@ use std::alloc::{AllocError, Global};
 
 /// The text of a token of the file.
 pub fn text_in<'a>(file: &'a [u8], tokens: &[Token], i: u32) -> &'a [u8]
-    ensures { result.now ≡ spec.text_in file.now tokens.now i }
+    ensures { result.now ≡ text_in file.now tokens.now i }
 {
     match tokens.get(i as usize) {
-        Some(token) => {
-            let rest = &file[(token.at as usize).min(file.len())..];
-            &rest[..(token.len as usize).min(rest.len())]
-        }
+        Some(token) => token.text(file),
         None => &file[..0],
     }
 }
@@ -89,7 +87,7 @@ pub fn constant_of(
     tokens: &[Token],
     e: &Ex,
 ) -> Result<Option<Expr>, AllocError>
-    ensures { IfOk result (λ made. made ≡ spec.constant_of (spec.text_in file.now tokens.now) e.now) }
+    ensures { IfOk result (λ made. made ≡ spec.constant_of (text_in file.now tokens.now) e.now) }
 {
     match &e.form {
         ExForm::Int => Ok(int_of(text_in(file, tokens, e.at))),

@@ -1,6 +1,7 @@
 //! Which files are lists of functions `int NAME(void) { return E; }` that return constants.
 
 ghost use Rattle.std.specs.Prelude.{◌≡◌, IfOk, IfSome, All};
+ghost use Rattle.c_lex.specs.Source.{text_in};
 ghost use Rattle.std.specs.List.{list_any};
 ghost use Rattle.std.specs.Option.{option_copied};
 ghost use Rattle.std.specs.Str.{bytes_eq};
@@ -26,7 +27,7 @@ fn one_word(specs: &[Spec]) -> Option<u32>
 
 /// Whether the only specifier is this word.
 fn is_word(file: &[u8], tokens: &[Token], specs: &[Spec], word: &[u8]) -> bool
-    ensures { result ≡ spec.is_word (spec.text_in file.now tokens.now) word.now specs.now }
+    ensures { result ≡ spec.is_word (text_in file.now tokens.now) word.now specs.now }
 {
     match one_word(specs) {
         Some(at) => text_in(file, tokens, at) == word,
@@ -36,7 +37,7 @@ fn is_word(file: &[u8], tokens: &[Token], specs: &[Spec], word: &[u8]) -> bool
 
 /// Whether a list of parameters is `(void)` or `()`.
 fn no_parameters(file: &[u8], tokens: &[Token], params: &[Param]) -> bool
-    ensures { result ≡ spec.no_parameters (spec.text_in file.now tokens.now) params.now }
+    ensures { result ≡ spec.no_parameters (text_in file.now tokens.now) params.now }
 {
     match params {
         [] => true,
@@ -50,7 +51,7 @@ fn no_parameters(file: &[u8], tokens: &[Token], params: &[Param]) -> bool
 
 /// The token of the name in `NAME(void)`.
 fn name_of(file: &[u8], tokens: &[Token], declarator: &Declarator) -> Option<u32>
-    ensures { result ≡ spec.name_of (spec.text_in file.now tokens.now) declarator.now.form }
+    ensures { result ≡ spec.name_of (text_in file.now tokens.now) declarator.now.form }
 {
     let DeclForm::Function {
         inner,

@@ -7,7 +7,10 @@ use c_types::{Layout, Member, StructInfo, same_type};
 fn same_member(a: &Member, b: &Member) -> bool
     ensures { IsTrue result ↔ (a.now ≡ b.now) }
 {
-    a.name == b.name && same_type(&a.ctype, &b.ctype) && a.offset_bits == b.offset_bits
+    a.name == b.name
+        && same_type(&a.ctype, &b.ctype)
+        && a.offset_bits == b.offset_bits
+        && a.bits == b.bits
 }
 
 fn same_members(a: &[Member], b: &[Member]) -> bool
@@ -32,6 +35,7 @@ fn same_struct(a: &StructInfo, b: &StructInfo) -> bool
         && a.size_bits == b.size_bits
         && a.align_bits == b.align_bits
         && a.complete == b.complete
+        && a.is_union == b.is_union
 }
 
 fn same_structs(a: &[StructInfo], b: &[StructInfo]) -> bool
@@ -164,6 +168,7 @@ fn same_base(a: &Base, b: &Base) -> bool
         && same_type(&a.ctype, &b.ctype)
         && a.size_bits == b.size_bits
         && same_start(&a.start, &b.start)
+        && a.is_literal == b.is_literal
 }
 
 fn same_bases(a: &[Base], b: &[Base]) -> bool

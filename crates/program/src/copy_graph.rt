@@ -13,6 +13,7 @@ fn copy_member(alloc: Global, member: &Member) -> Result<Member, AllocError>
         name: member.name,
         ctype: copy_type(alloc, &member.ctype)?,
         offset_bits: member.offset_bits,
+        bits: member.bits,
     })
 }
 
@@ -35,6 +36,7 @@ fn copy_struct(alloc: Global, info: &StructInfo) -> Result<StructInfo, AllocErro
         size_bits: info.size_bits,
         align_bits: info.align_bits,
         complete: info.complete,
+        is_union: info.is_union,
     })
 }
 
@@ -126,6 +128,7 @@ fn copy_base(alloc: Global, base: &Base) -> Result<Base, AllocError>
         ctype,
         size_bits: base.size_bits,
         start: copy_start(alloc, &base.start)?,
+        is_literal: base.is_literal,
     })
 }
 

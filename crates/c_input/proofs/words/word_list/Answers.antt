@@ -1,9 +1,10 @@
 use Rattle.std.proofs.Common.{◌≡◌, ℕ, ◌<◌, cond, List, [], ◌∷◌, ◌++◌, length, map, take, get_or, Some, bytes_eq, sym, ap, ◌∙◌, rules, arith}
 use Rattle.std.proofs.lemmas.List.{get_or_default, map_more, length-map, length-take-le}
+use Rattle.c_lex.specs.Source.{text_of}
 use Rattle.c_lex.specs.declared.token.Token.{Token}
 use Rattle.c_lex.specs.declared.token.TokenKind.TheVariants as kind
 use Rattle.c_input.specs.Input.{Word}
-use Rattle.c_input.specs.Words.{text_of, kind_sign, is_name_kind, word_of}
+use Rattle.c_input.specs.Words.{kind_sign, is_name_kind, word_of}
 use Rattle.c_input.specs.Numbers.{held, numbered}
 use Rattle.c_input.proofs.Seen.{given_number, held_on, same_word, word}
 use Rattle.c_input.proofs.words.word_list.Goals as goal
@@ -23,7 +24,7 @@ loop-token-preserved c =
     let same : t ≡ get_or ts i t = get_or_default ts i no_token t inside in
     let long : length c.loop-token.words.items ≡ i = ap length c.loop-token.invariant.read ∙ length-map (take i ts) (word_of file ts) ∙ length-take-le i ts (omega arith) in
     let at : c.len-at.result ≡ i = omega (arith, c.len-at.ensures, c.loop-token.words.ok.0, long) in
-    let text : c.text_of-text.result.now ≡ text_of file t = c.text_of-text.ensures in
+    let text : c.text-text.result.now ≡ text_of file t = c.text-text.ensures in
     let given : c.in_ok-name.name ≡ cond (is_name_kind t.kind) (numbered m (text_of file t) i) 0 =
     c.in_ok-name.ensures.number
     ∙ ap (λ (x : List ℕ). cond (is_name_kind t.kind) (numbered m x c.len-at.result) 0) text

@@ -1,6 +1,6 @@
 use Rattle.std.proofs.Common.{◌+◌, ◌^◌, ◌<◌, sym, subst, arith}
 use Rattle.program.specs.Numbers.{count_expr}
-use Rattle.c_meaning.specs.ConstantExecution.{IsResultFunction}
+use Rattle.constant_meaning.specs.ConstantExecution.{IsResultFunction}
 use Rattle.iterate.proofs.tests.function.Goals as goal
 
 pub returns : goal.returns
