@@ -1,0 +1,4 @@
+pub mod Qualified
+pub mod Compatible
+pub mod Translated
+pub mod Composite
