@@ -10,7 +10,7 @@ use Rattle.c_input.specs.declared.word.Sign.{Sign}
 use Rattle.c_input.specs.Input.{look_at, qualifies, binds, wants}
 use Rattle.c_input.specs.declared.measured.Measured.{Measured}
 use Rattle.c_input.specs.Parser.{Parser, ◌>>=◌, ◌>>◌, pure, look, here, skip, refuse, too_deep_here, left_out_here, if_so, expect, any_name, many, separated, gathered}
-use Rattle.c_input.specs.Signs.{is_comma, is_close_paren, is_close_bracket, is_colon}
+use Rattle.c_input.specs.Signs.{is, is_comma, is_close_paren, is_close_bracket, is_colon}
 use Rattle.c_expressions.specs.Nest.{Nest}
 use Rattle.c_expressions.specs.Declarators.{type_name}
 
@@ -19,8 +19,7 @@ is_str sign.Str = true
 is_str _ = false
 
 abbrev pub is_star : Sign → Bool
-is_star sign.Star = true
-is_star _ = false
+is_star = is sign.Star
 
 abbrev pub node : ℕ → ExForm → Ex
 node at f = roll-Ex (record { at = at; form = f })

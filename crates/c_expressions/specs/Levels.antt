@@ -38,7 +38,7 @@ one_level sub room = record {
   named = after_name sub room;
   starred = from_star sub room;
   declarator = declarator sub room;
-  line = member_line sub;
+  line = member_line sub room;
 }
 
 unfoldable pub nest : ℕ → Nest

@@ -1,11 +1,15 @@
 -- Declaration specifiers, structs and enumerations (6.7 to 6.7.3).
-use Rattle.std.specs.Prelude.{ℕ, zero, suc, ◌-◌, max, Bool, true, false, ◌||◌, List, [], ◌∷◌, ◌++◌, Option, Some, None}
+use Rattle.std.specs.Prelude.{ℕ, zero, suc, ◌-◌, max, nat_lt, Bool, true, false, ◌||◌, List, [], ◌∷◌, ◌++◌, Option, Some, None}
 use Rattle.c_tree.specs.declared.tree.Spec.{Spec}
 use Rattle.c_tree.specs.declared.tree.Spec.TheVariants as spec
+use Rattle.c_tree.specs.declared.tree.Ex.{Ex}
+use Rattle.c_tree.specs.declared.tree.Declarator.{Declarator, roll-Declarator}
+use Rattle.c_tree.specs.declared.tree.DeclForm.TheVariants as form
 use Rattle.c_tree.specs.declared.tree.MemberLine.{MemberLine, roll-MemberLine}
 use Rattle.c_tree.specs.declared.tree.MemberPart.{MemberPart, roll-MemberPart}
 use Rattle.c_tree.specs.declared.tree.Enumerator.{Enumerator, roll-Enumerator}
 use Rattle.c_expressions.specs.declared.grown.Mode.TheVariants as mode
+use Rattle.c_expressions.specs.declared.grown.Declares.{Declares}
 use Rattle.c_expressions.specs.declared.grown.Specs.{Specs}
 use Rattle.c_expressions.specs.declared.specifiers.Allowed.{Allowed}
 use Rattle.c_expressions.specs.declared.specifiers.Allowed.TheVariants as allowed
@@ -13,7 +17,7 @@ use Rattle.c_input.specs.declared.word.Sign.TheVariants as sign
 use Rattle.c_input.specs.declared.word.Sign.{Sign}
 use Rattle.c_input.specs.Input.{qualifies, specifies}
 use Rattle.c_input.specs.declared.measured.Measured.{Measured}
-use Rattle.c_input.specs.Parser.{Parser, ◌>>=◌, ◌>>◌, pure, look, here, skip, refuse, left_out_here, most_words, if_so, expect, any_name, declare, one_or_more, separated, trailed, gathered}
+use Rattle.c_input.specs.Parser.{Parser, ◌>>=◌, ◌>>◌, pure, look, here, skip, refuse, too_deep_here, most_words, if_so, expect, any_name, declare, one_or_more, separated, trailed, gathered}
 use Rattle.c_input.specs.Signs.{is_comma, is_semicolon, is_close_brace, is_no_close_brace}
 use Rattle.c_expressions.specs.Nest.{Nest}
 
@@ -26,6 +30,7 @@ abbrev pub is_type_specifier : Sign → Bool
 is_type_specifier sign.TypeWord = true
 is_type_specifier sign.TypeName = true
 is_type_specifier sign.Struct = true
+is_type_specifier sign.Union = true
 is_type_specifier sign.Enum = true
 is_type_specifier _ = false
 
@@ -57,6 +62,14 @@ behind first more = record {
 
 abbrev pub flat : Spec → Measured Spec
 flat x = record { tree = x; height = 0 }
+
+-- an abstract declarator without words
+abbrev pub nameless : ℕ → Declares
+nameless at = record { tree = roll-Declarator (record { at = at; form = form.Abstract }); height = 1; name = None; params = None }
+
+-- a declarator with its width, which only a bit-field has
+abbrev pub member_part : Declarator → Option Ex → ℕ → Measured MemberPart
+member_part d width height = record { tree = roll-MemberPart (record { declarator = d; width = width }); height = height }
 
 -- a tag, which may be left out before a brace
 abbrev pub tag_by : Sign → Parser (Option ℕ)
@@ -122,8 +135,8 @@ module _ (sub : Nest) where
 
   abbrev pub spec_by : Sign → Parser (Measured Spec)
   spec_by sign.Struct = struct_specifier
+  spec_by sign.Union = struct_specifier
   spec_by sign.Enum = enum_specifier
-  spec_by sign.Union = left_out_here
   spec_by sign.TypeName = here >>= (λ at. skip >> pure (flat (spec.Named at)))
   spec_by _ = here >>= (λ at. skip >> pure (flat (spec.Word at)))
 
@@ -154,32 +167,38 @@ module _ (sub : Nest) where
   unfoldable pub specs_after_name : ℕ → Parser Specs
   specs_after_name at = specs specifies true >>= (λ rest. pure (with_spec sign.TypeName (flat (spec.Named at)) rest))
 
-  -- struct-declarator (6.7.2.1); a bit-field is left out at its colon
-  abbrev pub no_width_by : Measured MemberPart → Sign → Parser (Measured MemberPart)
-  no_width_by x sign.Colon = left_out_here
-  no_width_by x _ = pure x
+  -- struct-declarator (6.7.2.1)
+  unfoldable pub bit_field : Declares → Parser (Measured MemberPart)
+  bit_field d = do
+    skip
+    e ← sub.expr 3
+    pure (member_part d.tree (Some e.tree) (max d.height e.height))
 
-  abbrev pub member_by : Sign → Parser (Measured MemberPart)
-  member_by sign.Colon = left_out_here
-  member_by _ = do
-    d ← sub.declarator mode.Named
-    look (no_width_by (record { tree = roll-MemberPart (record { declarator = d.tree; width = None }); height = d.height }))
+  abbrev pub width_by : Declares → Sign → Parser (Measured MemberPart)
+  width_by d sign.Colon = bit_field d
+  width_by d _ = pure (member_part d.tree None d.height)
 
-  unfoldable pub member : Parser (Measured MemberPart)
-  member = look member_by
+  -- a bit-field without a name has an abstract declarator without words, which is a node too
+  abbrev pub member_by : ℕ → ℕ → Sign → Parser (Measured MemberPart)
+  member_by room at sign.Colon = if_so (nat_lt 1 room) (bit_field (nameless at)) too_deep_here
+  member_by room at _ = sub.declarator mode.Named >>= (λ d. look (width_by d))
 
-  abbrev pub members_by : Sign → Parser (List (Measured MemberPart))
-  members_by sign.Semicolon = pure []
-  members_by _ = separated is_comma member
+  -- the room is that of the whole struct declaration
+  unfoldable pub member : ℕ → Parser (Measured MemberPart)
+  member room = here >>= (λ at. look (member_by room at))
 
-  unfoldable pub members : Parser (Measured (List MemberPart))
-  members = gathered (look members_by)
+  abbrev pub members_by : ℕ → Sign → Parser (List (Measured MemberPart))
+  members_by room sign.Semicolon = pure []
+  members_by room _ = separated is_comma (member room)
+
+  unfoldable pub members : ℕ → Parser (Measured (List MemberPart))
+  members room = gathered (look (members_by room))
 
   -- struct-declaration
-  unfoldable pub member_line : Parser (Measured MemberLine)
-  member_line = do
+  unfoldable pub member_line : ℕ → Parser (Measured MemberLine)
+  member_line room = do
     at ← here
     a ← qualifier_specs
-    parts ← members
+    parts ← members room
     expect is_semicolon
     pure (record { tree = roll-MemberLine (record { at = at; specs = a.list; parts = parts.tree }); height = suc (max a.height parts.height) })

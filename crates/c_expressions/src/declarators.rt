@@ -13,8 +13,8 @@ use crate::grown::{Declares, Grown, Mode};
 use crate::nest::{Grammar, Node, Wanted};
 use crate::specifiers::Allowed;
 use c_input::{
-    MOST_WORDS, Measured, Place, Scope, Sign, SyntaxStop, Word, close_bracket, close_paren,
-    is_comma, is_name, left_out, refuse, sign, skip, specifies, take_name, too_deep,
+    MOST_WORDS, Measured, Place, Sign, SyntaxStop, Word, expect, is_comma, is_name, left_out,
+    refuse, sign, skip, specifies, take_name, too_deep,
 };
 use c_tree::{DeclForm, Declarator, Param};
 use sqlite_items::{Boxed, Items};
@@ -29,7 +29,7 @@ struct Listed {
     names: Items<(u32, bool)>,
 }
 
-fn leaf(at: u32, form: DeclForm, name: Option<u32>) -> Declares
+pub fn leaf(at: u32, form: DeclForm, name: Option<u32>) -> Declares
     ensures { result ≡ spec.leaf at form name }
 {
     Declares {
@@ -283,7 +283,7 @@ impl<F: Fn(Global, &[Word], &mut Place, u32, Wanted) -> Result<Node, SyntaxStop>
         ensures within { Within (λ e. e.height) (suc self.now.room) result }
     {
         let listed = self.listed(words, place, d.name.is_some())?;
-        close_paren(words, place)?;
+        expect(words, place, Sign::CloseParen)?;
         let params = or_first(d.params, listed.names);
         Ok(Declares {
             tree: Declarator {
@@ -411,7 +411,7 @@ impl<F: Fn(Global, &[Word], &mut Place, u32, Wanted) -> Result<Node, SyntaxStop>
     {
         skip(words, place);
         let (found, length) = self.array_words(words, place, d.name.is_some())?;
-        close_bracket(words, place)?;
+        expect(words, place, Sign::CloseBracket)?;
         self.array_of(at, d, found, length)
     }
 
@@ -429,7 +429,7 @@ impl<F: Fn(Global, &[Word], &mut Place, u32, Wanted) -> Result<Node, SyntaxStop>
         ensures within { Within (λ e. e.height) (suc self.now.room) result }
     {
         let d = self.declarator(words, place, enclosed(mode))?;
-        close_paren(words, place)?;
+        expect(words, place, Sign::CloseParen)?;
         Ok(Declares {
             tree: Declarator {
                 at,

@@ -12,7 +12,7 @@ use crate::grown::Grown;
 use crate::nest::{Grammar, Node, Wanted};
 use crate::operands::{leaf, over};
 use c_input::{
-    Place, Sign, SyntaxStop, Word, binds, colon, left_out, refuse, sign, skip, too_deep, wants,
+    Place, Sign, SyntaxStop, Word, binds, expect, left_out, refuse, sign, skip, too_deep, wants,
 };
 use c_tree::ExForm;
 use sqlite_items::Boxed;
@@ -126,7 +126,7 @@ impl<F: Fn(Global, &[Word], &mut Place, u32, Wanted) -> Result<Node, SyntaxStop>
         ensures gives { Gives (spec.otherwise (nest self.now.room) at a b (words_of words.now) place.old) result place.new }
         ensures within { Within (λ e. e.height) (suc self.now.room) result }
     {
-        colon(words, place)?;
+        expect(words, place, Sign::Colon)?;
         let c = self.expr(words, place, 3)?;
         self.choice(at, a, b, c)
     }
@@ -316,10 +316,7 @@ impl<F: Fn(Global, &[Word], &mut Place, u32, Wanted) -> Result<Node, SyntaxStop>
         ensures within { Within (λ e. e.height) (suc self.now.room) result }
     {
         let at = place.at;
-        match sign(words, place) {
-            Sign::Star => skip(words, place),
-            _ => return Err(refuse(words, place)),
-        }
+        expect(words, place, Sign::Star)?;
         match sign(words, place) {
             Sign::CloseBracket if alone => Err(left_out(place)),
             _ => {

@@ -13,8 +13,8 @@ ghost use Rattle.c_expressions.specs.Nests.{Nests};
 use crate::grown::Grown;
 use crate::nest::{Grammar, Node, Wanted};
 use c_input::{
-    MOST_WORDS, Measured, Place, Sign, SyntaxStop, Word, any_name, close_bracket, close_paren,
-    is_comma, left_out, qualifies, refuse, sign, skip,
+    MOST_WORDS, Measured, Place, Sign, SyntaxStop, Word, any_name, expect, is_comma, left_out,
+    qualifies, refuse, sign, skip,
 };
 use c_tree::{Ex, ExForm, Param};
 use sqlite_items::{Boxed, Items};
@@ -112,7 +112,7 @@ impl<F: Fn(Global, &[Word], &mut Place, u32, Wanted) -> Result<Node, SyntaxStop>
         ensures within { Within (λ e. e.height) self.now.room result }
     {
         let name = self.type_name(words, place)?;
-        close_paren(words, place)?;
+        expect(words, place, Sign::CloseParen)?;
         match sign(words, place) {
             Sign::OpenBrace => Err(left_out(place)),
             _ => Ok(name),
@@ -136,7 +136,7 @@ impl<F: Fn(Global, &[Word], &mut Place, u32, Wanted) -> Result<Node, SyntaxStop>
             return Err(left_out(place));
         }
         let e = self.expr(words, place, 1)?;
-        close_paren(words, place)?;
+        expect(words, place, Sign::CloseParen)?;
         Ok(over(
             at,
             ExForm::Paren(Boxed::new(self.alloc, e.tree)?),
@@ -284,7 +284,7 @@ impl<F: Fn(Global, &[Word], &mut Place, u32, Wanted) -> Result<Node, SyntaxStop>
     {
         skip(words, place);
         let e = self.expr(words, place, 1)?;
-        close_bracket(words, place)?;
+        expect(words, place, Sign::CloseBracket)?;
         Ok(over(
             at,
             ExForm::Index(
@@ -373,7 +373,7 @@ impl<F: Fn(Global, &[Word], &mut Place, u32, Wanted) -> Result<Node, SyntaxStop>
     {
         skip(words, place);
         let arguments = self.arguments(words, place)?;
-        close_paren(words, place)?;
+        expect(words, place, Sign::CloseParen)?;
         Ok(over(
             at,
             ExForm::Call(Boxed::new(self.alloc, a.tree)?, arguments.tree),

@@ -10,13 +10,14 @@ ghost use Rattle.c_input.specs.Words.{words_of};
 ghost use Rattle.c_input.specs.Gives.{Gives, Within};
 ghost use Rattle.c_expressions.specs.Nests.{Nests};
 
-use crate::grown::{Mode, Specs};
+use crate::declarators::leaf;
+use crate::grown::{Declares, Mode, Specs};
 use crate::nest::{Grammar, Node, Wanted};
 use c_input::{
-    MOST_WORDS, Measured, Place, Sign, SyntaxStop, Word, any_name, close_brace, is_close_brace,
-    is_comma, left_out, qualifies, refuse, semicolon, sign, skip, specifies,
+    MOST_WORDS, Measured, Place, Sign, SyntaxStop, Word, any_name, expect, is_close_brace,
+    is_comma, qualifies, refuse, sign, skip, specifies, too_deep,
 };
-use c_tree::{Enumerator, MemberLine, MemberPart, Spec};
+use c_tree::{DeclForm, Enumerator, MemberLine, MemberPart, Spec};
 use sqlite_items::Items;
 use std::alloc::Global;
 
@@ -42,7 +43,7 @@ fn is_type_specifier(sign: Sign) -> bool
     ensures { result ≡ spec.is_type_specifier sign }
 {
     match sign {
-        Sign::TypeWord | Sign::TypeName | Sign::Struct | Sign::Enum => true,
+        Sign::TypeWord | Sign::TypeName | Sign::Struct | Sign::Union | Sign::Enum => true,
         _ => false,
     }
 }
@@ -107,7 +108,7 @@ impl<F: Fn(Global, &[Word], &mut Place, u32, Wanted) -> Result<Node, SyntaxStop>
     {
         skip(words, place);
         let lines = self.lines(words, place)?;
-        close_brace(words, place)?;
+        expect(words, place, Sign::CloseBrace)?;
         Ok(lines)
     }
 
@@ -229,7 +230,7 @@ impl<F: Fn(Global, &[Word], &mut Place, u32, Wanted) -> Result<Node, SyntaxStop>
     {
         skip(words, place);
         let all = self.enumerator_list(words, place)?;
-        close_brace(words, place)?;
+        expect(words, place, Sign::CloseBrace)?;
         Ok(all)
     }
 
@@ -263,7 +264,6 @@ impl<F: Fn(Global, &[Word], &mut Place, u32, Wanted) -> Result<Node, SyntaxStop>
         })
     }
 
-    #[tactic(auto, unfolding(c_input::specs::Parser::left_out_here))]
     fn spec(
         &self,
         words: &[Word],
@@ -279,9 +279,8 @@ impl<F: Fn(Global, &[Word], &mut Place, u32, Wanted) -> Result<Node, SyntaxStop>
     {
         let at = place.at;
         let tree = match found {
-            Sign::Struct => return self.struct_specifier(words, place),
+            Sign::Struct | Sign::Union => return self.struct_specifier(words, place),
             Sign::Enum => return self.enum_specifier(words, place),
-            Sign::Union => return Err(left_out(place)),
             Sign::TypeName => Spec::Named { at },
             _ => Spec::Word { at },
         };
@@ -369,20 +368,50 @@ impl<F: Fn(Global, &[Word], &mut Place, u32, Wanted) -> Result<Node, SyntaxStop>
         self.specs(words, place, Allowed::All, named)
     }
 
-    /// A struct declarator. A bit-field is left out at its colon.
-    #[tactic(auto, unfolding(crate::specs::Specifiers::member, c_input::specs::Parser::left_out_here))]
+    /// A bit-field, at the colon behind its declarator.
+    #[tactic(auto, unfolding(crate::specs::Specifiers::bit_field))]
+    fn bit_field(
+        &self,
+        words: &[Word],
+        place: &mut Place,
+        d: Declares,
+    ) -> Result<Measured<MemberPart>, SyntaxStop>
+        requires nests { Nests self.now.room (F.pre self.now.node) (F.post self.now.node) }
+        requires short { length words.now ≤ 1048576 }
+        requires seen { input.look_at (words_of words.now) place.old ≢ Sign.Eof }
+        requires fits { d.height ≤ self.now.room }
+        ensures gives { Gives (spec.bit_field (nest self.now.room) d (words_of words.now) place.old) result place.new }
+        ensures within { Within (λ e. e.height) self.now.room result }
+    {
+        skip(words, place);
+        let width = self.expr(words, place, 3)?;
+        Ok(Measured {
+            tree: MemberPart {
+                declarator: d.tree,
+                width: Some(width.tree),
+            },
+            height: d.height.max(width.height),
+        })
+    }
+
+    /// A struct declarator (C11 6.7.2.1). That of a bit-field without a name is a node at its colon.
+    #[tactic(auto, unfolding(crate::specs::Specifiers::member, c_input::specs::Parser::too_deep_here))]
     fn member(&self, words: &[Word], place: &mut Place) -> Result<Measured<MemberPart>, SyntaxStop>
         requires nests { Nests self.now.room (F.pre self.now.node) (F.post self.now.node) }
         requires short { length words.now ≤ 1048576 }
-        ensures gives { Gives (spec.member (nest self.now.room) (words_of words.now) place.old) result place.new }
+        ensures gives { Gives (spec.member (nest self.now.room) (suc self.now.room) (words_of words.now) place.old) result place.new }
         ensures within { Within (λ e. e.height) self.now.room result }
     {
         if sign(words, place) == Sign::Colon {
-            return Err(left_out(place));
+            if self.room == 0 {
+                return Err(too_deep(words, place));
+            }
+            let nameless = leaf(place.at, DeclForm::Abstract, None);
+            return self.bit_field(words, place, nameless);
         }
         let d = self.declarator(words, place, Mode::Named)?;
         if sign(words, place) == Sign::Colon {
-            return Err(left_out(place));
+            return self.bit_field(words, place, d);
         }
         Ok(Measured {
             tree: MemberPart {
@@ -400,7 +429,7 @@ impl<F: Fn(Global, &[Word], &mut Place, u32, Wanted) -> Result<Node, SyntaxStop>
     ) -> Result<Measured<Items<MemberPart>>, SyntaxStop>
         requires nests { Nests self.now.room (F.pre self.now.node) (F.post self.now.node) }
         requires short { length words.now ≤ 1048576 }
-        ensures gives { Gives (parser.gathered (parser.separated signs.is_comma (spec.member (nest self.now.room))) (words_of words.now) place.old) result place.new }
+        ensures gives { Gives (parser.gathered (parser.separated signs.is_comma (spec.member (nest self.now.room) (suc self.now.room))) (words_of words.now) place.old) result place.new }
         ensures within { Within (λ e. e.height) self.now.room result }
     {
         let mut all = Items::new(self.alloc);
@@ -427,7 +456,7 @@ impl<F: Fn(Global, &[Word], &mut Place, u32, Wanted) -> Result<Node, SyntaxStop>
     ) -> Result<Measured<Items<MemberPart>>, SyntaxStop>
         requires nests { Nests self.now.room (F.pre self.now.node) (F.post self.now.node) }
         requires short { length words.now ≤ 1048576 }
-        ensures gives { Gives (spec.members (nest self.now.room) (words_of words.now) place.old) result place.new }
+        ensures gives { Gives (spec.members (nest self.now.room) (suc self.now.room) (words_of words.now) place.old) result place.new }
         ensures within { Within (λ e. e.height) self.now.room result }
     {
         match sign(words, place) {
@@ -448,13 +477,13 @@ impl<F: Fn(Global, &[Word], &mut Place, u32, Wanted) -> Result<Node, SyntaxStop>
     ) -> Result<Measured<MemberLine>, SyntaxStop>
         requires nests { Nests self.now.room (F.pre self.now.node) (F.post self.now.node) }
         requires short { length words.now ≤ 1048576 }
-        ensures gives { Gives (spec.member_line (nest self.now.room) (words_of words.now) place.old) result place.new }
+        ensures gives { Gives (spec.member_line (nest self.now.room) (suc self.now.room) (words_of words.now) place.old) result place.new }
         ensures within { Within (λ e. e.height) (suc self.now.room) result }
     {
         let at = place.at;
         let specs = self.some_specs(words, place, Allowed::Qualifiers)?;
         let parts = self.members(words, place)?;
-        semicolon(words, place)?;
+        expect(words, place, Sign::Semicolon)?;
         Ok(Measured {
             tree: MemberLine {
                 at,

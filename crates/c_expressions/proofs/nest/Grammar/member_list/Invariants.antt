@@ -1,4 +1,4 @@
-use Rattle.std.proofs.Common.{◌≡◌, ◌≤◌, ◌-◌}
+use Rattle.std.proofs.Common.{◌≡◌, ◌≤◌, suc, ◌-◌}
 use Rattle.c_expressions.specs.Specifiers.{member}
 use Rattle.c_input.specs.Parser.{gathered, separated, skip, ◌>>◌}
 use Rattle.c_expressions.specs.Levels.{nest}
@@ -9,7 +9,7 @@ use Rattle.c_expressions.proofs.nest.Grammar.member_list.Given as goal
 
 abbrev pub invariant-loop-turn : goal.invariant-loop-turn
 invariant-loop-turn g l =
-    let item = (member (nest l.self.room)) in
+    let item = (member (nest l.self.room) (suc l.self.room)) in
     record {
       same : gathered (separated is_comma item) (words_of l.words) l.fn.place
           ≡ left add_tree (words_of l.words) is_comma (skip >> item) (record { tree = l.all; height = l.height }) (1048577 - l._turn) l.place;

@@ -1,0 +1,2 @@
+pub mod CompleteEquations
+pub mod ConstEquations
