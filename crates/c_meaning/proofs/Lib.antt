@@ -1,0 +1,15 @@
+pub mod Arguments
+pub mod Beginnings
+pub mod Executable
+pub mod FewBits
+pub mod KindEquations
+pub mod NarrowFields
+pub mod Outcomes
+pub mod PartEquations
+pub mod ScalarParts
+pub mod ScalarSizes
+pub mod Shown
+pub mod TypeEquations
+pub mod TypedInstructions
+pub mod TypedParts
+pub mod ValueEquations

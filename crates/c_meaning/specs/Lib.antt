@@ -1,0 +1,12 @@
+pub use Rattle.c_arithmetic.specs.Arithmetic
+pub mod ArrayDepth
+pub mod Begin
+pub mod Beginnings
+pub mod Cells
+pub mod Described
+pub mod Lawful
+pub mod Memory
+pub mod PlaceTypes
+pub mod Steps
+pub mod Typed
+pub mod Value

@@ -1,0 +1,8 @@
+pub mod Laws
+pub mod Memories
+pub mod Outcomes
+pub mod Picks
+pub mod Pointers
+pub mod Ranges
+pub mod TypedValues
+pub mod Types
