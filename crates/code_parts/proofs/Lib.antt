@@ -1,0 +1,3 @@
+pub mod LabelEquations
+pub mod NumberingEquations
+pub mod SizeEquations
