@@ -12,8 +12,7 @@ ghost use Rattle.c_syntax.specs.Below.{Holds};
 use crate::built::Built;
 use crate::statements::{Statements, built};
 use c_input::{
-    Place, Sign, SyntaxStop, Word, close_paren, is_close_paren, is_semicolon, open_paren,
-    semicolon, sign, skip, specifies, while_word,
+    Place, Sign, SyntaxStop, Word, expect, is_close_paren, is_semicolon, sign, skip, specifies,
 };
 use c_tree::{Ex, ForStart, StmtForm};
 use sqlite_items::Boxed;
@@ -36,9 +35,9 @@ impl<F: Fn(Global, &[Word], &mut Place, u32, Option<u32>) -> Result<Built, Synta
         requires short { length words.now ≤ 1048576 }
         ensures gives { Gives (spec.condition (spec.parts_within self.now.room) (words_of words.now) place.old) result place.new }
     {
-        open_paren(words, place)?;
+        expect(words, place, Sign::OpenParen)?;
         let e = self.expr(words, place, 1)?;
-        close_paren(words, place)?;
+        expect(words, place, Sign::CloseParen)?;
         Ok(e.tree)
     }
 
@@ -72,7 +71,7 @@ impl<F: Fn(Global, &[Word], &mut Place, u32, Option<u32>) -> Result<Built, Synta
     {
         let ends = is_semicolon(sign(words, place));
         let e = self.optional(words, place, ends)?;
-        semicolon(words, place)?;
+        expect(words, place, Sign::Semicolon)?;
         Ok(e)
     }
 
@@ -88,7 +87,7 @@ impl<F: Fn(Global, &[Word], &mut Place, u32, Option<u32>) -> Result<Built, Synta
     {
         let ends = is_close_paren(sign(words, place));
         let e = self.optional(words, place, ends)?;
-        close_paren(words, place)?;
+        expect(words, place, Sign::CloseParen)?;
         Ok(e)
     }
 
@@ -208,9 +207,9 @@ impl<F: Fn(Global, &[Word], &mut Place, u32, Option<u32>) -> Result<Built, Synta
     {
         skip(words, place);
         let a = self.inner(words, place)?;
-        while_word(words, place)?;
+        expect(words, place, Sign::While)?;
         let e = self.condition(words, place)?;
-        semicolon(words, place)?;
+        expect(words, place, Sign::Semicolon)?;
         let body = Boxed::new(self.alloc, a.tree)?;
         Ok(built(at, StmtForm::Do(body, e), false))
     }
@@ -222,7 +221,7 @@ impl<F: Fn(Global, &[Word], &mut Place, u32, Option<u32>) -> Result<Built, Synta
         ensures gives { Gives (spec.value_start (spec.parts_within self.now.room) (words_of words.now) place.old) result place.new }
     {
         let e = self.expr(words, place, 1)?;
-        semicolon(words, place)?;
+        expect(words, place, Sign::Semicolon)?;
         Ok(ForStart::Value(e.tree))
     }
 
@@ -249,7 +248,7 @@ impl<F: Fn(Global, &[Word], &mut Place, u32, Option<u32>) -> Result<Built, Synta
         requires short { length words.now ≤ 1048576 }
         ensures gives { Gives (spec.for_head (spec.parts_within self.now.room) (words_of words.now) place.old) result place.new }
     {
-        open_paren(words, place)?;
+        expect(words, place, Sign::OpenParen)?;
         let start = self.for_start(words, place)?;
         let test = self.optional_before_semicolon(words, place)?;
         let last = self.optional_before_paren(words, place)?;

@@ -11,7 +11,7 @@ ghost use Rattle.c_input.specs.Gives.{Gives};
 
 use crate::initialisers::init;
 use c_expressions::{Declares, Specs, declaration_specs, declarator, specs_after_name};
-use c_input::{MOST_WORDS, Place, Sign, SyntaxStop, Word, is_comma, semicolon, sign, skip};
+use c_input::{MOST_WORDS, Place, Sign, SyntaxStop, Word, expect, is_comma, sign, skip};
 use c_tree::{Declaration, InitPart};
 use sqlite_items::Items;
 use std::alloc::{AllocError, Global};
@@ -151,7 +151,7 @@ impl Declarations {
         ensures gives { Gives (spec.parts_after (inits_within self.now.room) at specs first (words_of words.now) place.old) result place.new }
     {
         let parts = self.all_parts(words, place, specs.is_typedef, first)?;
-        semicolon(words, place)?;
+        expect(words, place, Sign::Semicolon)?;
         Ok(Declaration {
             at,
             specs: specs.list,

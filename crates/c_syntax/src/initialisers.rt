@@ -10,8 +10,8 @@ ghost use Rattle.c_syntax.specs.Below.{Initialises};
 
 use c_expressions::expr;
 use c_input::{
-    MOST_WORDS, Place, Sign, SyntaxStop, Word, any_name, begins_expression, close_brace,
-    close_bracket, is_close_brace, is_comma, left_out, no_room, refuse, sign, skip,
+    MOST_WORDS, Place, Sign, SyntaxStop, Word, any_name, begins_expression, expect, is_close_brace,
+    is_comma, left_out, no_room, refuse, sign, skip,
 };
 use c_tree::{Designator, Given, Init};
 use sqlite_items::Items;
@@ -69,7 +69,7 @@ impl<F: Fn(Global, &[Word], &mut Place, u32) -> Result<Init, SyntaxStop>> Initia
         let at = place.at;
         skip(words, place);
         let index = expr(self.alloc, words, place, self.room, 3)?;
-        close_bracket(words, place)?;
+        expect(words, place, Sign::CloseBracket)?;
         let index = index.tree;
         designated(words, place, Designator::Place { at, index })
     }
@@ -131,7 +131,7 @@ impl<F: Fn(Global, &[Word], &mut Place, u32) -> Result<Init, SyntaxStop>> Initia
         let at = place.at;
         skip(words, place);
         let parts = self.parts(words, place)?;
-        close_brace(words, place)?;
+        expect(words, place, Sign::CloseBrace)?;
         Ok(Init::List { at, parts })
     }
 

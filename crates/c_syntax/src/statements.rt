@@ -15,8 +15,8 @@ use crate::built::Built;
 use crate::declarations::Declarations;
 use c_expressions::{Grown, expr, named};
 use c_input::{
-    MOST_WORDS, Place, Sign, SyntaxStop, Word, any_name, begins_expression, close_brace, colon,
-    left_out, no_room, refuse, semicolon, sign, skip, specifies, too_deep,
+    MOST_WORDS, Place, Sign, SyntaxStop, Word, any_name, begins_expression, expect, left_out,
+    no_room, refuse, sign, skip, specifies, too_deep,
 };
 use c_tree::{BlockItem, Declaration, Stmt, StmtForm};
 use sqlite_items::{Boxed, Items};
@@ -148,7 +148,7 @@ impl<F: Fn(Global, &[Word], &mut Place, u32, Option<u32>) -> Result<Built, Synta
     {
         skip(words, place);
         let (_, name) = any_name(words, place)?;
-        semicolon(words, place)?;
+        expect(words, place, Sign::Semicolon)?;
         Ok(built(at, StmtForm::Goto(name), false))
     }
 
@@ -182,7 +182,7 @@ impl<F: Fn(Global, &[Word], &mut Place, u32, Option<u32>) -> Result<Built, Synta
         ensures gives { Gives (spec.plain_jump (spec.parts_within self.now.room) at StmtForm.Continue (words_of words.now) place.old) result place.new }
     {
         skip(words, place);
-        semicolon(words, place)?;
+        expect(words, place, Sign::Semicolon)?;
         Ok(built(at, StmtForm::Continue, false))
     }
 
@@ -199,7 +199,7 @@ impl<F: Fn(Global, &[Word], &mut Place, u32, Option<u32>) -> Result<Built, Synta
         ensures gives { Gives (spec.plain_jump (spec.parts_within self.now.room) at StmtForm.Break (words_of words.now) place.old) result place.new }
     {
         skip(words, place);
-        semicolon(words, place)?;
+        expect(words, place, Sign::Semicolon)?;
         Ok(built(at, StmtForm::Break, false))
     }
 
@@ -258,7 +258,7 @@ impl<F: Fn(Global, &[Word], &mut Place, u32, Option<u32>) -> Result<Built, Synta
         ensures gives { Gives (spec.default_statement (spec.parts_within self.now.room) at (words_of words.now) place.old) result place.new }
     {
         skip(words, place);
-        colon(words, place)?;
+        expect(words, place, Sign::Colon)?;
         let a = self.sub(words, place)?;
         let body = Boxed::new(self.alloc, a.tree)?;
         Ok(built(at, StmtForm::Default(body), a.waits))
@@ -271,7 +271,7 @@ impl<F: Fn(Global, &[Word], &mut Place, u32, Option<u32>) -> Result<Built, Synta
         requires short { length words.now ≤ 1048576 }
         ensures gives { Gives (spec.label_rest (spec.parts_within self.now.room) at (words_of words.now) place.old) result place.new }
     {
-        colon(words, place)?;
+        expect(words, place, Sign::Colon)?;
         let a = self.sub(words, place)?;
         let body = Boxed::new(self.alloc, a.tree)?;
         Ok(built(at, StmtForm::Label(body), a.waits))
@@ -289,7 +289,7 @@ impl<F: Fn(Global, &[Word], &mut Place, u32, Option<u32>) -> Result<Built, Synta
         requires short { length words.now ≤ 1048576 }
         ensures gives { Gives (spec.ended (spec.parts_within self.now.room) at e (words_of words.now) place.old) result place.new }
     {
-        semicolon(words, place)?;
+        expect(words, place, Sign::Semicolon)?;
         Ok(built(at, StmtForm::Expr(Some(e.tree)), false))
     }
 
@@ -455,7 +455,7 @@ impl<F: Fn(Global, &[Word], &mut Place, u32, Option<u32>) -> Result<Built, Synta
     {
         skip(words, place);
         let items = self.block_items(words, place)?;
-        close_brace(words, place)?;
+        expect(words, place, Sign::CloseBrace)?;
         Ok(built(at, StmtForm::Block(items), false))
     }
 
