@@ -1,0 +1,17 @@
+pub mod Sorts
+pub mod Operands
+pub mod Constants
+pub mod Conversions
+pub mod Operators
+pub mod Accesses
+pub mod Nest
+pub mod TypeWords
+pub mod Specifiers
+pub mod Declarators
+pub mod Functions
+pub mod Bodies
+pub mod Tags
+pub mod Lists
+pub mod Forms
+pub mod Expressions
+pub mod Levels
