@@ -35,7 +35,7 @@ reads_one_level sub room rs = record {
   starred = reads_from_star sub rs room;
   declarator = reads_declarator sub rs room;
   named_declarator = reads_named_declarator sub rs room;
-  line = reads_member_line sub rs;
+  line = reads_member_line sub rs room;
 }
 
 pub reads_nest : (room : ℕ) → ReadsNest (nest room)

@@ -1,5 +1,5 @@
 -- What the parsers of each level of room read is a tree of its words.
-use Rattle.std.proofs.Common.{ℕ, zero, suc, Ok, Err}
+use Rattle.std.proofs.Common.{◌≤◌, ℕ, zero, suc, Ok, Err}
 use Rattle.c_input.specs.declared.word.Sign.{Sign}
 use Rattle.c_input.specs.declared.word.Sign.TheVariants as sign
 use Rattle.c_input.specs.declared.word.Place.{Place as State}
@@ -20,9 +20,9 @@ use Rattle.c_grammar.proofs.ExpressionTreesRead.{All, IsEx, expression_all, afte
 use Rattle.c_grammar.proofs.SpecifierTreesRead.{Ends, Sound, IsLine, line_all}
 use Rattle.c_grammar.proofs.DeclaratorTreesRead.{type_name_all, declarator_all}
 
-module _ (W : Words) (ends : Ends W) where
+module _ (horizon : ℕ) (W : Words) (ends : Ends W) where
   abbrev B : Below
-  B = Derived 0 W
+  B = Derived horizon W
 
   nothing_sound : Sound W B nothing
   unfolding no_room too_deep_here left_out_here
@@ -41,20 +41,20 @@ module _ (W : Words) (ends : Ends W) where
 
   level_sound : (sub : Nest) (room : ℕ) → ReadsNest sub → Sound W B sub → Sound W B (one_level sub room)
   level_sound sub room rs sound =
-      let up = an_expression 0 W in
+      let up = an_expression horizon W in
       let opens = sound.opened in
-      let types = type_name_all W ends B sub rs sound (a_declarator 0 W) in
+      let types = type_name_all horizon W ends B sub rs sound (a_declarator horizon W) in
       record {
-        expr = λ l s le. expression_all W B sub up sound.expr opens types room l s le;
-        opened = λ s e. after_open_all W B sub up sound.expr opens types room s e;
-        named = λ s e. after_name_all W B sub up sound.expr opens types room s e;
-        starred = λ alone s. from_star_all W B sub up sound.expr opens types room alone s;
-        declarator = λ m s. declarator_all W ends B sub rs sound (a_declarator 0 W) room m s;
-        line = λ s. lines s (member_line sub W s) (line_all W ends B sub rs sound s);
+        expr = λ l s le. expression_all horizon W B sub up sound.expr opens types room l s le;
+        opened = λ s e. after_open_all horizon W B sub up sound.expr opens types room s e;
+        named = λ s e. after_name_all horizon W B sub up sound.expr opens types room s e;
+        starred = λ alone s. from_star_all horizon W B sub up sound.expr opens types room alone s;
+        declarator = λ m s. declarator_all horizon W ends B sub rs sound (a_declarator horizon W) room m s;
+        line = λ s. lines s (member_line sub room W s) (line_all horizon W ends B sub rs sound room s);
       }
     where
-      lines : (s : State) (o : Outcome (Measured MemberLine)) → All (λ x t. (r : ℕ) → LineIs 0 W B r x.tree s t) o → All (IsLine B s) o
-      lines s (Ok x) h = λ r. a_line 0 W r x.0.tree s x.1 (h r)
+      lines : (s : State) (o : Outcome (Measured MemberLine)) → All (λ x t. (r : ℕ) → x.height ≤ r → LineIs horizon W B r x.tree s t) o → All (IsLine B s) o
+      lines s (Ok x) h = λ r tall. a_line horizon W r x.0.tree s x.1 (h r tall)
       lines s (Err e) h = tt
 
   pub nest_sound : (room : ℕ) → Sound W B (nest room)

@@ -15,7 +15,8 @@ pub mod TreeLevels
 pub mod SpecifierTreesRead
 pub mod DeclaratorTreesRead
 pub mod LevelTreesRead
+pub mod RoomRules
+pub mod RoomTreesRead
 pub mod DeclarationTreesRead
 pub mod StatementTreesRead
 pub mod FileTreesRead
-pub mod RoomRules

@@ -5,7 +5,6 @@ use Rattle.c_tree.specs.declared.tree.Param.{Param}
 use Rattle.c_tree.specs.declared.tree.ExForm.{ExForm}
 use Rattle.c_tree.specs.declared.tree.ExForm.TheVariants as form
 use Rattle.c_tree.specs.declared.tree.DeclForm.TheVariants as decl
-use Rattle.c_tree.specs.declared.tree.MemberPart.{MemberPart, roll-MemberPart}
 use Rattle.c_expressions.specs.declared.grown.Grown.{Grown}
 use Rattle.c_expressions.specs.declared.grown.Specs.{Specs}
 use Rattle.c_expressions.specs.declared.grown.Declares.{Declares}
@@ -19,7 +18,7 @@ use Rattle.c_input.specs.Input.{Words, look_at, is_name, specifies, qualifies, b
 use Rattle.c_input.specs.Parser.{Outcome, Parser, and_then, ◌>>=◌, ◌>>◌, pure, look, here, skip, refuse, declare, too_deep_here, left_out_here, no_room, if_so, expect, take_name, any_name, many_from, many, one_or_more, separated, trailed_from, trailed, trees, deepest, gathered, most_words}
 use Rattle.c_input.specs.Signs.{is_comma, is_close_brace, is_no_close_brace, is_close_paren, is_close_bracket, is_colon}
 use Rattle.c_expressions.specs.Nest.{Nest}
-use Rattle.c_expressions.specs.Specifiers.{no_specs, with_spec, is_type_specifier, tag, member_lines, struct_by, struct_specifier, enumerator_by, enumerator, enumerators, enum_by, enum_specifier, spec_by, specs_from, specs, some_specs, no_width_by, member_by, member, members_by, members, member_line}
+use Rattle.c_expressions.specs.Specifiers.{no_specs, with_spec, is_type_specifier, tag, member_lines, struct_by, struct_specifier, enumerator_by, enumerator, enumerators, enum_by, enum_specifier, spec_by, specs_from, specs, some_specs, nameless, bit_field, width_by, member_by, member, members_by, members, member_line}
 use Rattle.c_expressions.specs.Expressions.{leaf, over, strings, string, closed_by, closed_type, cast_rest, paren_by, paren_rest, open_rest, size_of_expr, size_open, sizeof_by, size_of, unary, first_by, first, indexed, argument, arguments_by, arguments, called, member_of, joined, assigned, otherwise, conditional, followed, longer, goes_on, climb, expression, after_open, after_name, star_by, from_star}
 use Rattle.c_expressions.specs.Levels.{opened_by, nothing, one_level, nest}
 use Rattle.c_expressions.specs.Declarators.{leaf as plain, length_height, array_of, Params, no_params, in_front, last_one, is_ellipsis, is_empty, enclosed, goes_on as is_suffix, qualifiers, pointer, declare_param, parameter, type_name, parameters_from, parameters, some_listed, listed_by, listed, function_rest, length_by, words_by, array_words, array_rest, paren_rest as bracketed, open_by, named_by, unnamed_by, direct_by, longer as suffix, suffixes, direct, declarator_by, declarator}
@@ -35,7 +34,7 @@ LowOne {A = A} n p = Gives (λ (x : Measured A). x.height ≤ n) p
 abbrev pub LowAll : {A : Type 0} → ℕ → Parser (List (Measured A)) → Type 0
 LowAll {A = A} n p = Gives (λ (xs : List (Measured A)). deepest xs ≤ n) p
 
-gives_from : {A B : Type 0} {P : A → Type 0} {Q : B → Type 0} {p : Parser A} {f : A → Parser B} → Gives P p → ((a : A) → P a → Gives Q (f a)) → Gives Q (p >>= f)
+pub gives_from : {A B : Type 0} {P : A → Type 0} {Q : B → Type 0} {p : Parser A} {f : A → Parser B} → Gives P p → ((a : A) → P a → Gives Q (f a)) → Gives Q (p >>= f)
 gives_from {A} {B} {P} {Q} {p} {f} gp gf = record { gives = λ W s. by W (p W s) (gp.gives W s) }
   where
     by : (W : Words) (o : Outcome A) → AllGive P o → AllGive Q (and_then W o f)
@@ -317,7 +316,7 @@ module _ (sub : Nest) (n : ℕ) (below : LowNest n sub) where
   low_spec_by : (q : Sign) → LowOne n (spec_by sub q)
   low_spec_by sign.Struct = low_struct
   low_spec_by sign.Enum = low_enum
-  low_spec_by sign.Union = gives_left_out
+  low_spec_by sign.Union = low_struct
   low_spec_by sign.TypeName = gives_bind here _ (λ at. gives_then skip _ (gives_pure _ (omega arith)))
   low_spec_by _ = gives_bind here _ (λ at. gives_then skip _ (gives_pure _ (omega arith)))
 
@@ -336,25 +335,29 @@ module _ (sub : Nest) (n : ℕ) (below : LowNest n sub) where
   unfolding some_specs
   low_some_specs more = gives_look (λ q. gives_if (more false q) (λ _. low_specs more false) gives_stop)
 
-  low_no_width : (x : Measured MemberPart) → x.height ≤ n → (q : Sign) → LowOne n (no_width_by sub x q)
-  low_no_width x le sign.Colon = gives_left_out
-  low_no_width x le _ = gives_pure x le
+  low_bit_field : (d : Declares) → d.height ≤ n → LowOne n (bit_field sub d)
+  unfolding bit_field
+  low_bit_field d le = gives_then skip _ (gives_from (below.expr 3) (λ e les. gives_pure _ (omega arith)))
 
-  low_member_by : (q : Sign) → LowOne n (member_by sub q)
-  low_member_by sign.Colon = gives_left_out
-  low_member_by _ = gives_from (below.declarator mode.Named) (λ d le. gives_look (low_no_width (record { tree = roll-MemberPart (record { declarator = d.tree; width = None }); height = d.height }) le))
+  low_width_by : (d : Declares) → d.height ≤ n → (q : Sign) → LowOne n (width_by sub d q)
+  low_width_by d le sign.Colon = low_bit_field d le
+  low_width_by d le _ = gives_pure _ le
 
-  low_part : LowOne n (member sub)
+  low_member_by : (at : ℕ) (q : Sign) → LowOne n (member_by sub (suc n) at q)
+  low_member_by at sign.Colon = gives_if (nat_lt 1 (suc n)) (λ e. let room = ltb-true 1 (suc n) e in low_bit_field (nameless at) (omega arith)) gives_deep
+  low_member_by at _ = gives_from (below.declarator mode.Named) (λ d le. gives_look (low_width_by d le))
+
+  low_part : LowOne n (member sub (suc n))
   unfolding member
-  low_part = gives_look low_member_by
+  low_part = gives_bind here _ (λ at. gives_look (low_member_by at))
 
-  low_members_by : (q : Sign) → LowAll n (members_by sub q)
+  low_members_by : (q : Sign) → LowAll n (members_by sub (suc n) q)
   low_members_by sign.Semicolon = gives_pure [] (omega arith)
-  low_members_by _ = low_separated n (member sub) low_part is_comma
+  low_members_by _ = low_separated n (member sub (suc n)) low_part is_comma
 
-  pub low_line : LowOne (suc n) (member_line sub)
+  pub low_line : LowOne (suc n) (member_line sub (suc n))
   unfolding member_line members
-  low_line = gives_bind here _ (λ at. gives_from (low_some_specs qualifies) (λ a le. gives_from (low_gathered n (look (members_by sub)) (gives_look low_members_by)) (λ parts les.
+  low_line = gives_bind here _ (λ at. gives_from (low_some_specs qualifies) (λ a le. gives_from (low_gathered n (look (members_by sub (suc n))) (gives_look low_members_by)) (λ parts les.
       gives_then (expect _) _ (gives_pure _ (omega arith)))))
 
   -- ---- declarators, parameters and type names

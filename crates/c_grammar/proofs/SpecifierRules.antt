@@ -1,19 +1,17 @@
 -- Specifiers, structs and enumerations go forward, are local and stay inside the words.
-use Rattle.std.proofs.Common.{◌≡◌, ◌<◌, ◌≤◌, arith, sym, subst, ℕ, zero, suc, ◌-◌, ◌||◌, Bool, true, false, [], Option, None, refl}
+use Rattle.std.proofs.Common.{◌≡◌, ◌<◌, ◌≤◌, arith, sym, subst, ℕ, zero, suc, ◌-◌, ◌||◌, nat_lt, Bool, true, false, [], Option, None, refl}
 use Rattle.c_expressions.specs.declared.grown.Mode.{Mode}
 use Rattle.c_expressions.specs.declared.grown.Mode.TheVariants as mode
-use Rattle.c_tree.specs.declared.tree.MemberPart.{MemberPart, roll-MemberPart}
 use Rattle.c_expressions.specs.declared.grown.Declares.{Declares}
 use Rattle.c_input.specs.declared.word.Sign.{Sign}
 use Rattle.c_input.specs.declared.word.Sign.TheVariants as sign
 use Rattle.c_input.specs.declared.word.Place.{Place as State}
-use Rattle.c_input.specs.declared.measured.Measured.{Measured}
 use Rattle.c_input.specs.Input.{Words, look_at, specifies, qualifies}
 use Rattle.c_input.specs.Parser.{◌>>=◌, pure, refuse, if_so, most_words}
 use Rattle.c_input.specs.Signs.{is_comma, is_semicolon, is_close_brace, is_no_close_brace}
 use Rattle.c_expressions.specs.Nest.{Nest}
-use Rattle.c_expressions.specs.Specifiers.{is_type_specifier, no_specs, with_spec, tag_by, tag, member_lines, struct_by, struct_specifier, enumerator_by, enumerator, enumerators, enum_by, enum_specifier, spec_by, specs_from, specs, some_specs, declaration_specs, qualifier_specs, specs_after_name, no_width_by, member_by, member, members_by, members, member_line}
-use Rattle.c_grammar.proofs.Combinators.{Reads, Past, word_inside, known, reads_pure, reads_refuse, reads_left_out, reads_skip, reads_declare, reads_bind, reads_then, reads_from_here, reads_by_state, reads_look, reads_if, reads_if_word, reads_expect, reads_any_name, reads_one_or_more, reads_separated, reads_trailed, reads_gathered}
+use Rattle.c_expressions.specs.Specifiers.{is_type_specifier, no_specs, with_spec, tag_by, tag, member_lines, struct_by, struct_specifier, enumerator_by, enumerator, enumerators, enum_by, enum_specifier, spec_by, specs_from, specs, some_specs, declaration_specs, qualifier_specs, specs_after_name, nameless, bit_field, width_by, member_by, member, members_by, members, member_line}
+use Rattle.c_grammar.proofs.Combinators.{Reads, Past, word_inside, known, reads_pure, reads_refuse, reads_too_deep, reads_skip, reads_declare, reads_bind, reads_then, reads_from_here, reads_by_state, reads_look, reads_if, reads_if_word, reads_expect, reads_any_name, reads_one_or_more, reads_separated, reads_trailed, reads_gathered}
 
 pub no_specifier : (typed : Bool) → specifies typed sign.Eof ≡ false
 no_specifier true = refl
@@ -79,7 +77,7 @@ module _ (sub : Nest) (rs : ReadsNest sub) where
   pub reads_spec_by : {moves : Bool} (q : Sign) → Reads 1 moves (spec_by sub q)
   reads_spec_by sign.Struct = reads_struct
   reads_spec_by sign.Enum = reads_enum
-  reads_spec_by sign.Union = reads_left_out
+  reads_spec_by sign.Union = reads_struct
   reads_spec_by sign.TypeName = reads_from_here (λ at. reads_then reads_skip (reads_pure _))
   reads_spec_by _ = reads_from_here (λ at. reads_then reads_skip (reads_pure _))
 
@@ -131,30 +129,31 @@ module _ (sub : Nest) (rs : ReadsNest sub) where
   unfolding specs_after_name
   reads_specs_after_name at = reads_bind (reads_specs specifies no_specifier true) (λ rest. reads_pure _)
 
-  abbrev part_of : Declares → Measured MemberPart
-  part_of d = record { tree = roll-MemberPart (record { declarator = d.tree; width = None }); height = d.height }
+  reads_bit_field : {moves : Bool} (d : Declares) → Reads 1 moves (bit_field sub d)
+  unfolding bit_field
+  reads_bit_field d = reads_then reads_skip (reads_bind (rs.expr 3) (λ e. reads_pure _))
 
-  reads_no_width_by : (x : Measured MemberPart) (q : Sign) → Reads (known q) false (no_width_by sub x q)
-  reads_no_width_by x sign.Colon = reads_left_out
-  reads_no_width_by x _ = reads_pure x
+  reads_width_by : (d : Declares) (q : Sign) → Reads (known q) false (width_by sub d q)
+  reads_width_by d sign.Colon = reads_bit_field d
+  reads_width_by d _ = reads_pure _
 
-  reads_member_by : (q : Sign) → Reads (known q) false (member_by sub q)
-  reads_member_by sign.Colon = reads_left_out
-  reads_member_by _ = reads_bind (rs.declarator mode.Named) (λ d. reads_look (no_width_by sub (part_of d)) (reads_no_width_by (part_of d)))
+  reads_member_by : (room at : ℕ) (q : Sign) → Reads (known q) false (member_by sub room at q)
+  reads_member_by room at sign.Colon = reads_if (nat_lt 1 room) (reads_bit_field (nameless at)) reads_too_deep
+  reads_member_by room at _ = reads_bind (rs.declarator mode.Named) (λ d. reads_look (width_by sub d) (reads_width_by d))
 
-  pub reads_member : {k : ℕ} → Reads k false (member sub)
+  pub reads_member : {k : ℕ} (room : ℕ) → Reads k false (member sub room)
   unfolding member
-  reads_member = reads_look (member_by sub) reads_member_by
+  reads_member room = reads_from_here (λ at. reads_look (member_by sub room at) (reads_member_by room at))
 
-  reads_members_by : (q : Sign) → Reads (known q) false (members_by sub q)
-  reads_members_by sign.Semicolon = reads_pure []
-  reads_members_by _ = reads_separated is_comma refl reads_member
+  reads_members_by : (room : ℕ) (q : Sign) → Reads (known q) false (members_by sub room q)
+  reads_members_by room sign.Semicolon = reads_pure []
+  reads_members_by room _ = reads_separated is_comma refl (reads_member room)
 
-  reads_members : {k : ℕ} → Reads k false (members sub)
+  reads_members : {k : ℕ} (room : ℕ) → Reads k false (members sub room)
   unfolding members
-  reads_members = reads_gathered (reads_look (members_by sub) reads_members_by)
+  reads_members room = reads_gathered (reads_look (members_by sub room) (reads_members_by room))
 
-  pub reads_member_line : {k : ℕ} {moves : Bool} → Reads k moves (member_line sub)
+  pub reads_member_line : {k : ℕ} {moves : Bool} (room : ℕ) → Reads k moves (member_line sub room)
   unfolding member_line
-  reads_member_line = reads_from_here (λ at. reads_bind reads_qualifier_specs (λ a. reads_bind reads_members (λ parts.
+  reads_member_line room = reads_from_here (λ at. reads_bind reads_qualifier_specs (λ a. reads_bind (reads_members room) (λ parts.
       reads_then (reads_expect is_semicolon refl) (reads_pure _))))

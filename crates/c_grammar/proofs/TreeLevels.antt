@@ -12,7 +12,7 @@ use Rattle.c_input.specs.declared.word.Place.{Place as State}
 use Rattle.c_input.specs.Input.{Words}
 use Rattle.c_grammar.specs.Below.{Below, Declared}
 use Rattle.c_grammar.specs.SpecifierTrees as spc
-use Rattle.c_grammar.specs.SpecifierTrees.{Tag, Lines, EnumeratorIs, Enumerators, SpecifierIs, SpecifiersAre, SomeSpecifiers, Members, LineIs}
+use Rattle.c_grammar.specs.SpecifierTrees.{Tag, Lines, EnumeratorIs, Enumerators, SpecifierIs, SpecifiersAre, SomeSpecifiers, MemberIs, Members, LineIs}
 use Rattle.c_grammar.specs.DeclaratorTrees as dcl
 use Rattle.c_grammar.specs.DeclaratorTrees.{Qualifiers, TypeName, ParameterIs, Parameters, Listed, Length, DeclaratorIs}
 use Rattle.c_grammar.specs.ExpressionTrees as exp
@@ -76,9 +76,14 @@ module _ (h : ℕ) (W : Words) (B : Below) (F : ℕ → Below) (below : Meets B 
       From (λ m. SomeSpecifiers h W (F m) more r xs p q s t)
   some more r xs p q s t (spc.some_specifiers _ _ _ _ _ e a) = from_one _ _ (λ m a. spc.some_specifiers xs p q s t e a) (specifiers more r _ xs p q s t a)
 
+  member : (r : ℕ) (x : MemberPart) (s t : State) → MemberIs h W B r x s t → From (λ m. MemberIs h W (F m) r x s t)
+  member r x s t (spc.member d _ _ a) = from_one _ _ (λ m a. spc.member d s t a) (below.declarator r _ d s t a)
+  member r x s t (spc.bit_field d y _ u _ a e b) = from_two _ _ _ (λ m a b. spc.bit_field d y s u t a e b) (below.declarator r _ d s u a) (below.expr r _ y _ t b)
+  member r x s t (spc.nameless_bit_field y _ _ room e a) = from_one _ _ (λ m a. spc.nameless_bit_field y s t room e a) (below.expr r _ y _ t a)
+
   members : (r : ℕ) (xs : List MemberPart) (s t : State) → Members h W B r xs s t → From (λ m. Members h W (F m) r xs s t)
-  members r xs s t (spc.last_member x _ _ a) = from_one _ _ (λ m a. spc.last_member x s t a) (below.declarator r _ x s t a)
-  members r xs s t (spc.member_and_more x rest _ u _ a e b) = from_two _ _ _ (λ m a b. spc.member_and_more x rest s u t a e b) (below.declarator r _ x s u a) (members r rest _ t b)
+  members r xs s t (spc.last_member x _ _ a) = from_one _ _ (λ m a. spc.last_member x s t a) (member r x s t a)
+  members r xs s t (spc.member_and_more x rest _ u _ a e b) = from_two _ _ _ (λ m a b. spc.member_and_more x rest s u t a e b) (member r x s u a) (members r rest _ t b)
 
   pub line : (r : ℕ) (x : MemberLine) (s t : State) → LineIs h W B r x s t → From (λ m. LineIs h W (F m) r x s t)
   line r x s t (spc.members all p q parts _ u v room a b e) = from_two _ _ _ (λ m a b. spc.members all p q parts s u v room a b e) (some _ _ all p q s u a) (members _ parts u v b)

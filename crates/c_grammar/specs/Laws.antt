@@ -1,15 +1,15 @@
 -- What holds of the parser's outcome on a file.
-use Rattle.std.specs.Prelude.{◌≡◌, ◌≤◌, suc, List, length, take, Ok, Err}
+use Rattle.std.specs.Prelude.{◌≡◌, ◌≤◌, ℕ, suc, List, length, take, Ok, Err}
 use Rattle.c_tree.specs.declared.tree.Unit.{Unit as Tree}
 use Rattle.c_input.specs.declared.word.Word.{Word}
 use Rattle.c_input.specs.declared.word.Place.{Place as State}
+use Rattle.c_lex.specs.Source.{longest}
 use Rattle.c_lex.specs.Bytes.{Text}
 use Rattle.c_lex.specs.declared.token.Token.{Token}
 use Rattle.c_input.specs.Words.{words_of, word_list}
 use Rattle.c_input.specs.Parser.{Stop, Outcome}
 use Rattle.c_syntax.specs.FileScope.{translation_unit, start}
 use Rattle.c_grammar.specs.Places.{stop_place}
-use Rattle.c_grammar.specs.Lists.{most_tokens}
 use Rattle.c_grammar.specs.FileTrees.{Spells}
 
 abbrev pub outcome : List Word → Outcome Tree
@@ -25,10 +25,10 @@ StopIsInFile = (ws : List Word) (e : Stop) → outcome ws ≡ Err e → stop_pla
 
 -- a tree is one of all the tokens of the file
 abbrev pub TreeIsOfFile : Type 0
-TreeIsOfFile = (file : Text) (tokens : List Token) (tree : Tree) (end : State) → length tokens ≤ most_tokens →
+TreeIsOfFile = (file : Text) (tokens : List Token) (tree : Tree) (end : State) → length tokens ≤ longest →
     outcome (word_list file tokens) ≡ Ok (tree, end) → end.at ≡ length tokens
 
--- a tree is one of the file's words by the productions of Annex A.2
+-- a tree is one of the file's words by the productions of Annex A.2, and none of its nodes is nested deeper than the limit
 abbrev pub TreeIsDerived : Type 0
-TreeIsDerived = (file : Text) (tokens : List Token) (tree : Tree) (end : State) → length tokens ≤ most_tokens →
-    outcome (word_list file tokens) ≡ Ok (tree, end) → Spells 0 (word_list file tokens) tree
+TreeIsDerived = (file : Text) (tokens : List Token) (tree : Tree) (end : State) (horizon : ℕ) → length tokens ≤ longest →
+    outcome (word_list file tokens) ≡ Ok (tree, end) → Spells horizon (word_list file tokens) tree

@@ -3,6 +3,7 @@ use Rattle.std.specs.Prelude.{◌≡◌, ◌≤◌, ℕ, suc, ◌||◌, nat_lt, 
 use Rattle.c_expressions.specs.declared.grown.Specs.{Specs}
 use Rattle.c_expressions.specs.declared.grown.Grown.{Grown}
 use Rattle.c_expressions.specs.declared.grown.Declares.{Declares}
+use Rattle.c_lex.specs.Source.{longest}
 use Rattle.c_input.specs.declared.word.Sign.{Sign}
 use Rattle.c_input.specs.declared.word.Word.{Word}
 use Rattle.c_input.specs.declared.word.Place.{Place as State}
@@ -20,18 +21,14 @@ use Rattle.c_syntax.specs.Declarations.{next_part}
 use Rattle.c_syntax.specs.Statements.{block_item, parts_within}
 use Rattle.c_syntax.specs.FileScope.{is_no_end, file_item, limit}
 
--- the greatest number of tokens of a file
-abbrev pub most_tokens : ℕ
-most_tokens = 1048576
-
 -- at every place of a file they have the same outcome
 abbrev pub Agree : {I A : Type 0} → List Word → (I → Parser A) → (I → Parser A) → Type 0
 Agree {I = I} ws p r = (i : I) (s : State) → s.at ≤ length ws → p i (words_of ws) s ≡ r i (words_of ws) s
 
 -- On every file the lists do what their rule says of them, and no other parsers do.
 pub record AreByRule {I A : Type 0} (rule : (I → Parser A) → I → Parser A) (lists : I → Parser A) : Type 0 where
-  pub follows : (ws : List Word) → length ws ≤ most_tokens → Agree ws lists (rule lists)
-  pub alone : (ws : List Word) → length ws ≤ most_tokens → (others : I → Parser A) → Agree ws others (rule others) → Agree ws others lists
+  pub follows : (ws : List Word) → length ws ≤ longest → Agree ws lists (rule lists)
+  pub alone : (ws : List Word) → length ws ≤ longest → (others : I → Parser A) → Agree ws others (rule others) → Agree ws others lists
 
 -- the same of one list
 abbrev pub IsByRule : {A : Type 0} → (Parser A → Parser A) → Parser A → Type 0
@@ -94,7 +91,7 @@ pub record ListsAreByRule : Type 0 where
   -- specifier-qualifier-list (6.7.2.1)
   pub specifiers_and_qualifiers : (room : ℕ) → AreByRule (one_more_specifier (nest room) qualifies) (specs (nest room) qualifies)
   -- struct-declarator-list (6.7.2.1)
-  pub struct_declarators : (room : ℕ) → Repeats is_comma (skip >> member (nest room))
+  pub struct_declarators : (room : ℕ) → Repeats is_comma (skip >> member (nest room) (suc room))
   -- enumerator-list (6.7.2.2)
   pub enumerators : (room : ℕ) → Alternates is_comma is_close_brace (enumerator (nest room))
   -- type-qualifier-list (6.7.6)

@@ -12,7 +12,9 @@ use Rattle.c_input.specs.declared.word.Sign.{Sign}
 use Rattle.c_input.specs.declared.word.Sign.TheVariants as sign
 use Rattle.c_input.specs.declared.word.Place.{Place as State}
 use Rattle.c_input.specs.Input.{Words, step, look_at, is_name, qualifies}
+use Rattle.c_tree.specs.declared.tree.DeclForm.TheVariants as form
 use Rattle.c_expressions.specs.Specifiers.{is_type_specifier, is_typedef}
+use Rattle.c_expressions.specs.Declarators.{node}
 use Rattle.c_grammar.specs.Below.{Below, Declared, Room, name_at, declaring}
 
 -- a specifier of one word that isn't a typedef name
@@ -24,8 +26,15 @@ is_spec_word sign.Qualifier = true
 is_spec_word sign.TypeWord = true
 is_spec_word _ = false
 
-abbrev pub member_part : Declarator → MemberPart
-member_part d = roll-MemberPart (record { declarator = d; width = None })
+-- the first word of a struct-or-union-specifier
+abbrev pub is_struct_or_union : Sign → Bool
+is_struct_or_union sign.Struct = true
+is_struct_or_union sign.Union = true
+is_struct_or_union _ = false
+
+-- a struct-declarator: the width is that of a bit-field
+abbrev pub member_part : Declarator → Option Ex → MemberPart
+member_part d width = roll-MemberPart (record { declarator = d; width = width })
 
 module _ (horizon : ℕ) (W : Words) (B : Below) where
   -- a tag, which may be left out before a brace (6.7.2.3)
@@ -58,9 +67,9 @@ module _ (horizon : ℕ) (W : Words) (B : Below) where
     -- typedef-name (6.7.8)
     typedef_name : (s : State) → look_at W s ≡ sign.TypeName → SpecifierIs room (spec.Named s.at) s (step s)
     -- struct-or-union-specifier (6.7.2.1)
-    struct_ : (name : Option ℕ) (lines : List MemberLine) (s t u : State) → look_at W s ≡ sign.Struct → Tag name (step s) t → look_at W t ≡ sign.OpenBrace →
+    struct_ : (name : Option ℕ) (lines : List MemberLine) (s t u : State) → is_struct_or_union (look_at W s) ≡ true → Tag name (step s) t → look_at W t ≡ sign.OpenBrace →
         Lines room lines (step t) u → look_at W u ≡ sign.CloseBrace → SpecifierIs room (spec.Struct s.at name (Some lines)) s (step u)
-    struct_tag : (s : State) → look_at W s ≡ sign.Struct → is_name (look_at W (step s)) ≡ true →
+    struct_tag : (s : State) → is_struct_or_union (look_at W s) ≡ true → is_name (look_at W (step s)) ≡ true →
         SpecifierIs room (spec.Struct s.at (Some (step s).at) None) s (step (step s))
     -- enum-specifier (6.7.2.2)
     enum_ : (name : Option ℕ) (all : List Enumerator) (s t u : State) → look_at W s ≡ sign.Enum → Tag name (step s) t → look_at W t ≡ sign.OpenBrace →
@@ -81,11 +90,20 @@ module _ (horizon : ℕ) (W : Words) (B : Below) where
     some_specifiers : (all : List Spec) (a b : Bool) (s t : State) → more false (look_at W s) ≡ true → SpecifiersAre more room false all a b s t →
         SomeSpecifiers more room all a b s t
 
-  -- struct-declarator-list (6.7.2.1); bit-fields are left out
+  -- struct-declarator (6.7.2.1)
+  pub data MemberIs (room : ℕ) : MemberPart → State → State → Type 0 where
+    member : (d : Declared) (s t : State) → B.declarator room mode.Named d s t → MemberIs room (member_part d.tree None) s t
+    bit_field : (d : Declared) (e : Ex) (s t u : State) → B.declarator room mode.Named d s t → look_at W t ≡ sign.Colon → B.expr room 3 e (step t) u →
+        MemberIs room (member_part d.tree (Some e)) s u
+    -- its declarator is abstract, without words
+    nameless_bit_field : (e : Ex) (s t : State) → Room horizon room s → look_at W s ≡ sign.Colon → B.expr room 3 e (step s) t →
+        MemberIs room (member_part (node s.at form.Abstract) (Some e)) s t
+
+  -- struct-declarator-list (6.7.2.1)
   pub data Members (room : ℕ) : List MemberPart → State → State → Type 0 where
-    last_member : (d : Declared) (s t : State) → B.declarator room mode.Named d s t → Members room (member_part d.tree ∷ []) s t
-    member_and_more : (d : Declared) (rest : List MemberPart) (s t u : State) → B.declarator room mode.Named d s t → look_at W t ≡ sign.Comma →
-        Members room rest (step t) u → Members room (member_part d.tree ∷ rest) s u
+    last_member : (x : MemberPart) (s t : State) → MemberIs room x s t → Members room (x ∷ []) s t
+    member_and_more : (x : MemberPart) (rest : List MemberPart) (s t u : State) → MemberIs room x s t → look_at W t ≡ sign.Comma → Members room rest (step t) u →
+        Members room (x ∷ rest) s u
 
   -- struct-declaration (6.7.2.1), with or without its declarators
   pub data LineIs (room : ℕ) : MemberLine → State → State → Type 0 where

@@ -25,7 +25,7 @@ pub fn bound_ends_no_list()
     ensures { ListsAreByRule }
 {}
 
-/// A file's tree is one of its words by the productions of C11 Annex A.2.
+/// A file's tree is one of its words by the productions of C11 Annex A.2, with no node that is nested deeper than 200.
 pub fn trees_are_derived()
     ensures { TreeIsDerived }
 {}
