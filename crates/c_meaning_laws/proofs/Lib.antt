@@ -1,4 +1,8 @@
+pub mod BeginningObjects
+pub mod BeginningsLawful
+pub mod Instructions
 pub mod Laws
+pub mod Lists
 pub mod Memories
 pub mod Outcomes
 pub mod Picks

@@ -139,7 +139,7 @@ lawful_put m base at new h written =
 
 -- ---- objects that come to life
 
-all_entered : (P : Object → Type 0) (base size : ℕ) (m : List Object) → P (record { base = base; cells = replicate size Uninit }) → All P m → All P (entered base size m)
+pub all_entered : (P : Object → Type 0) (base size : ℕ) (m : List Object) → P (record { base = base; cells = replicate size Uninit }) → All P m → All P (entered base size m)
 all_entered P base size [] fresh h = All-cons P _ [] fresh (All-nil P)
 all_entered P base size (o ∷ os) fresh h =
     elim (nat_lt base o.base) as (λ v. All P (if v then (record { base = base; cells = replicate size Uninit }) ∷ o ∷ os else o ∷ entered base size os)) [

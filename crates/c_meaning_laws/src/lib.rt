@@ -4,8 +4,8 @@
 //! and in `c_meaning`.
 #![tactic(auto)]
 
-ghost use Rattle.c_meaning_laws.specs.Beginnings.{PicksMakeEach};
-ghost use Rattle.c_meaning_laws.specs.Memories.{EndsOfLivesStayLawful, EntriesStayLawful, PointersStayInside, WritesStayLawful};
+ghost use Rattle.c_meaning_laws.specs.Beginnings.{BeginningsAreLawful, PicksMakeEach};
+ghost use Rattle.c_meaning_laws.specs.Memories.{EndsOfLivesStayLawful, EntriesStayLawful, InstructionsStayLawful, PointersStayInside, WritesStayLawful};
 ghost use Rattle.c_meaning_laws.specs.Values.{ValuesAreTyped};
 
 /// A write of bits whose pointers point inside leaves a lawful memory.
@@ -36,4 +36,14 @@ pub fn picks_make_each()
 /// An expression of a type gives a value of it, where no bit-field is wider than its type.
 pub fn values_are_typed()
     ensures { ValuesAreTyped }
+{}
+
+/// The states with which executions begin are lawful.
+pub fn beginnings_are_lawful()
+    ensures { BeginningsAreLawful }
+{}
+
+/// An instruction that stays in its function leaves a lawful memory; where it is an Enter, its bases didn't live.
+pub fn instructions_stay_lawful()
+    ensures { InstructionsStayLawful }
 {}
