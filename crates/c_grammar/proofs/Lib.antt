@@ -20,3 +20,17 @@ pub mod RoomTreesRead
 pub mod DeclarationTreesRead
 pub mod StatementTreesRead
 pub mod FileTreesRead
+pub mod Leads
+pub mod ExpressionsFound
+pub mod LeadsLists
+pub mod OperandsFound
+pub mod NodesFound
+pub mod SpecifiersFound
+pub mod MembersFound
+pub mod ParametersFound
+pub mod DeclaratorsFound
+pub mod LevelsFound
+pub mod InitialisersFound
+pub mod DeclarationsFound
+pub mod StatementsFound
+pub mod FileFound

@@ -1,5 +1,5 @@
 -- What holds of the parser's outcome on a file.
-use Rattle.std.specs.Prelude.{◌≡◌, ◌≤◌, ℕ, suc, List, length, take, Ok, Err}
+use Rattle.std.specs.Prelude.{◌≡◌, ◌<◌, ◌≤◌, ◌⊎◌, ℕ, suc, List, length, take, Ok, Err}
 use Rattle.c_tree.specs.declared.tree.Unit.{Unit as Tree}
 use Rattle.c_input.specs.declared.word.Word.{Word}
 use Rattle.c_input.specs.declared.word.Place.{Place as State}
@@ -7,7 +7,7 @@ use Rattle.c_lex.specs.Source.{longest}
 use Rattle.c_lex.specs.Bytes.{Text}
 use Rattle.c_lex.specs.declared.token.Token.{Token}
 use Rattle.c_input.specs.Words.{words_of, word_list}
-use Rattle.c_input.specs.Parser.{Stop, Outcome}
+use Rattle.c_input.specs.Parser.{Stop, too_deep, Outcome}
 use Rattle.c_syntax.specs.FileScope.{translation_unit, start}
 use Rattle.c_grammar.specs.Places.{stop_place}
 use Rattle.c_grammar.specs.FileTrees.{Spells}
@@ -32,3 +32,14 @@ TreeIsOfFile = (file : Text) (tokens : List Token) (tree : Tree) (end : State) �
 abbrev pub TreeIsDerived : Type 0
 TreeIsDerived = (file : Text) (tokens : List Token) (tree : Tree) (end : State) (horizon : ℕ) → length tokens ≤ longest →
     outcome (word_list file tokens) ≡ Ok (tree, end) → Spells horizon (word_list file tokens) tree
+
+-- Each tree of a file's words is the one that the parser reads, or it stops for depth, at no place before the horizon: up to the horizon
+-- the tree's nodes are nested no deeper than the limit.
+abbrev pub TreeIsRead : Type 0
+TreeIsRead = (file : Text) (tokens : List Token) (tree : Tree) (horizon : ℕ) → length tokens ≤ longest → Spells horizon (word_list file tokens) tree →
+    ((end : State) × (outcome (word_list file tokens) ≡ Ok (tree, end))) ⊎ ((at : ℕ) × (outcome (word_list file tokens) ≡ Err (too_deep at)) × (horizon ≤ at))
+
+-- a file with a tree whose nodes are nested no deeper than the limit has no other tree, however deep
+abbrev pub TreeIsTheOnlyOne : Type 0
+TreeIsTheOnlyOne = (file : Text) (tokens : List Token) (tree other : Tree) (horizon : ℕ) → length tokens ≤ longest → length tokens < horizon →
+    Spells horizon (word_list file tokens) tree → Spells 0 (word_list file tokens) other → other ≡ tree

@@ -1,6 +1,6 @@
 //! Laws of the definitions: each function's contract is one.
 
-ghost use Rattle.c_grammar.specs.Laws.{StopIsFinal, StopIsInFile, TreeIsDerived, TreeIsOfFile};
+ghost use Rattle.c_grammar.specs.Laws.{StopIsFinal, StopIsInFile, TreeIsDerived, TreeIsOfFile, TreeIsRead, TreeIsTheOnlyOne};
 ghost use Rattle.c_grammar.specs.Lists.{ListsAreByRule};
 ghost use Rattle.c_grammar.specs.Places.{GoesForward, IsLocal, StaysInside};
 ghost use Rattle.c_syntax.specs.FileScope.{translation_unit};
@@ -28,4 +28,11 @@ pub fn bound_ends_no_list()
 /// A file's tree is one of its words by the productions of C11 Annex A.2, with no node that is nested deeper than 200.
 pub fn trees_are_derived()
     ensures { TreeIsDerived }
+{}
+
+/// Each tree of a file's words by the productions of C11 Annex A.2 is the one that is read, or the stop is for depth and stands at no
+/// word before which the tree is nested within the limit. A file with a tree that is nested within the limit has no other.
+pub fn trees_are_read()
+    ensures read { TreeIsRead }
+    ensures only { TreeIsTheOnlyOne }
 {}

@@ -8,4 +8,6 @@
 
 mod law;
 
-pub use law::{bound_ends_no_list, reads_no_further, reads_to_the_end, trees_are_derived};
+pub use law::{
+    bound_ends_no_list, reads_no_further, reads_to_the_end, trees_are_derived, trees_are_read,
+};
