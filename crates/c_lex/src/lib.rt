@@ -12,11 +12,7 @@ mod line;
 mod literal;
 mod number;
 mod piece;
-#[cfg(test)]
-mod pump;
 mod scan;
-#[cfg(test)]
-mod tests;
 mod token;
 mod vocabulary;
 

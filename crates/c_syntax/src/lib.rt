@@ -16,8 +16,6 @@ mod declarations;
 mod file_scope;
 mod initialisers;
 mod statements;
-#[cfg(test)]
-mod tests;
 
 use crate::file_scope::translation_unit;
 pub use c_input::SyntaxStop;

@@ -19,5 +19,3 @@ pub use size::{TypeStop, align_bits, kept_size, size_bits};
 pub use structs::lay_out;
 pub use types::{CType, Declared, IntKind, Layout, Member, StructId, StructInfo};
 
-#[cfg(test)]
-mod tests;

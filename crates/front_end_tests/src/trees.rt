@@ -1,6 +1,6 @@
-use crate::parse;
 use c_input::SyntaxStop;
 use c_lex::{LONGEST, tokens};
+use c_syntax::parse;
 use c_tree::{BlockItem, DeclForm, Ex, ExForm, Item, Spec, StmtForm};
 use std::alloc::{AllocError, Global};
 

@@ -1,8 +1,7 @@
-use crate::constant::{IntConstant, Longs, char_value, int_constant, string_bytes};
-use crate::error::LexStop;
 use crate::pump;
-use crate::scan::tokens;
-use crate::token::{Token, TokenKind};
+use c_lex::{
+    IntConstant, LexStop, Longs, Token, TokenKind, char_value, int_constant, string_bytes, tokens,
+};
 use std::alloc::{AllocError, Global};
 
 fn letter(kind: TokenKind) -> char {
