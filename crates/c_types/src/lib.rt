@@ -18,4 +18,3 @@ pub use convert::{is_signed, promote, range, usual, width, wrap};
 pub use size::{TypeStop, align_bits, kept_size, size_bits};
 pub use structs::lay_out;
 pub use types::{CType, Declared, IntKind, Layout, Member, StructId, StructInfo};
-
