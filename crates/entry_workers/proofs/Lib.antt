@@ -1,0 +1,5 @@
+mod Totals
+mod Steps
+mod Serving
+mod Gathering
+mod Ending
