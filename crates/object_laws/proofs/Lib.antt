@@ -1,0 +1,5 @@
+pub mod Edges
+pub mod Copies
+pub mod Grown
+pub mod Widened
+pub mod Equal
