@@ -5,7 +5,7 @@ use Rattle.c_types.specs.declared.types.IntKind.TheVariants as kind
 use Rattle.c_types.specs.declared.types.CType.{CType}
 use Rattle.program.specs.declared.expressions.BinOp.{BinOp}
 use Rattle.program.specs.declared.expressions.Expr.{Expr}
-use Rattle.program.specs.declared.expressions.Expr.TheVariants.{Const, Null, Load, Addr, Start, Unary', Binary', Cast'}
+use Rattle.program.specs.declared.expressions.Expr.TheVariants.{Const, Null, Load, Addr, Start}
 use Rattle.program.specs.declared.expressions.LVal.{LVal}
 use Rattle.program.specs.Typing.{is_pointer}
 use Rattle.c_meaning.specs.PlaceTypes.{kind_of_type, result_kind, kind_of, moves_pointer, is_address}

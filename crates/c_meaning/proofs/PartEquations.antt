@@ -2,7 +2,7 @@
 use Rattle.std.specs.Prelude.{◌≡◌, ℕ, Bool, Some, None}
 use Rattle.c_types.specs.declared.types.IntKind.{IntKind}
 use Rattle.c_types.specs.declared.types.CType.{CType}
-use Rattle.c_types.specs.declared.types.CType.TheVariants.{Int, Ptr', Array', Struct}
+use Rattle.c_types.specs.declared.types.CType.TheVariants.{Int, Struct}
 use Rattle.c_meaning.specs.PlaceTypes.{pointed, element, length_of_array}
 use Rattle.std.specs.Prelude.{refl}
 use Rattle.c_types.specs.declared.types.StructId.{StructId}

@@ -5,9 +5,9 @@ use Rattle.c_types.specs.declared.types.IntKind.{IntKind}
 use Rattle.c_types.specs.declared.types.CType.{CType}
 use Rattle.program.specs.declared.expressions.BinOp.{BinOp}
 use Rattle.program.specs.declared.expressions.Expr.{Expr}
-use Rattle.program.specs.declared.expressions.Expr.TheVariants.{Const, Null, Load, Addr, Start, Unary', Binary', Cast'}
+use Rattle.program.specs.declared.expressions.Expr.TheVariants.{Const, Null, Load, Addr, Start}
 use Rattle.program.specs.declared.expressions.LVal.{LVal}
-use Rattle.program.specs.declared.expressions.LVal.TheVariants.{Var, Deref', Index', Field'}
+use Rattle.program.specs.declared.expressions.LVal.TheVariants.{Var}
 use Rattle.program.specs.declared.graph.Function.{Function}
 use Rattle.program.specs.declared.graph.Program.{Program}
 use Rattle.program.specs.Typing.{base_type}

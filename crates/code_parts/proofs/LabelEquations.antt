@@ -5,9 +5,9 @@ use Rattle.program.specs.declared.graph.Place.{Place}
 use Rattle.code_parts.specs.declared.parts.Crossing.{Crossing}
 use Rattle.code_parts.specs.declared.parts.Target.{Target}
 use Rattle.code_parts.specs.declared.parts.Code.{Code}
-use Rattle.code_parts.specs.declared.parts.Code.TheVariants.{Nothing, Parts'}
+use Rattle.code_parts.specs.declared.parts.Code.TheVariants.{Nothing}
 use Rattle.code_parts.specs.declared.parts.Part.{Part}
-use Rattle.code_parts.specs.declared.parts.Part.TheVariants.{Node, Label, Jump, Branch', Loop', Forever', Do', Switch'}
+use Rattle.code_parts.specs.declared.parts.Part.TheVariants.{Node, Label, Jump}
 use Rattle.code_parts.specs.declared.parts.Fork.{Fork}
 use Rattle.code_parts.specs.Sizes.{code_size, fork_size, part_size}
 use Rattle.code_parts.specs.Labels.{code_labels, row_labels, part_labels, list_labels}

@@ -6,12 +6,11 @@ use Rattle.program.specs.declared.graph.Place.{Place}
 use Rattle.code_parts.specs.declared.parts.Crossing.{Crossing}
 use Rattle.code_parts.specs.declared.parts.Target.{Target}
 use Rattle.code_parts.specs.declared.parts.Code.{Code}
-use Rattle.code_parts.specs.declared.parts.Code.TheVariants.{Nothing, Parts'}
+use Rattle.code_parts.specs.declared.parts.Code.TheVariants.{Nothing}
 use Rattle.code_parts.specs.declared.parts.Part.{Part}
-use Rattle.code_parts.specs.declared.parts.Part.TheVariants.{Label, Jump, Branch', Loop', Forever', Do', Switch'}
+use Rattle.code_parts.specs.declared.parts.Part.TheVariants.{Label, Jump}
 use Rattle.code_parts.specs.declared.parts.Part.TheVariants as part
 use Rattle.code_parts.specs.declared.parts.Fork.{Fork}
-use Rattle.code_parts.specs.declared.parts.Fork.TheVariants.{Test', Not', And', Or'}
 use Rattle.code_parts.specs.declared.nodes.Ends.{Ends}
 use Rattle.code_parts.specs.Sizes.{crossing_size, code_size, fork_size, part_size}
 use Rattle.code_parts.specs.Numbering.{going_on, looping, switching, guarding, entry, target_node, part_entry, row_entry, list_entry, then_entry, code_entry, node_to, guard_to, leave_nodes, enter_nodes, skip_to, code_nodes, row_nodes, part_nodes, fork_nodes, list_nodes}

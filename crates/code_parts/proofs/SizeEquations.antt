@@ -6,11 +6,10 @@ use Rattle.program.specs.declared.graph.Place.{Place}
 use Rattle.code_parts.specs.declared.parts.Crossing.{Crossing}
 use Rattle.code_parts.specs.declared.parts.Target.{Target}
 use Rattle.code_parts.specs.declared.parts.Code.{Code}
-use Rattle.code_parts.specs.declared.parts.Code.TheVariants.{Nothing, Parts, Parts'}
+use Rattle.code_parts.specs.declared.parts.Code.TheVariants.{Nothing, Parts}
 use Rattle.code_parts.specs.declared.parts.Part.{Part}
-use Rattle.code_parts.specs.declared.parts.Part.TheVariants.{Node, Label, Jump, Branch', Loop', Forever', Do', Switch'}
+use Rattle.code_parts.specs.declared.parts.Part.TheVariants.{Node, Label, Jump}
 use Rattle.code_parts.specs.declared.parts.Fork.{Fork}
-use Rattle.code_parts.specs.declared.parts.Fork.TheVariants.{Test', Not', And', Or'}
 use Rattle.code_parts.specs.declared.parts.Fork.TheVariants as fork
 use Rattle.code_parts.specs.Sizes.{crossing_size, code_size, fork_size, part_size}
 use Rattle.std.specs.Prelude.{◌≡◌, refl}

@@ -1,19 +1,17 @@
 -- Bits of groups.
-use Rattle.std.proofs.Common.{◌≡◌, ℕ, zero, suc, ◌+◌, ◌-◌, ◌^◌, ◌<◌, ◌≤◌, List, [], ◌∷◌, ◌++◌, length, sym, refl, ap, subst, ◌∙◌, Bool, true, false, ℤ, pos, ◌-ℤ◌, Option, Some, None, arith, add-one, IsTrue, ◌↔◌}
-use Rattle.std.specs.Prelude.{◌&&◌, not, eqb, nat_eq, if◌then◌else◌}
+use Rattle.std.proofs.Common.{◌≡◌, ℕ, zero, suc, ◌+◌, ◌-◌, List, [], ◌∷◌, sym, refl, ap, ◌∙◌, Bool, true, false, ℤ, pos, Option, Some, None, arith, IsTrue, ◌↔◌}
+use Rattle.std.specs.Prelude.{if◌then◌else◌}
 use Rattle.std.specs.List.{fold, range_with_len}
 use Rattle.std.proofs.lemmas.Int.{ints}
 use Rattle.std.proofs.lemmas.List.Elements.{All-cons, All-nil}
-use Rattle.std.proofs.Math.Nat.{pow-le-pow_right}
 use Rattle.c_memory.specs.Cells.{bit_of}
 use Rattle.ival.specs.Forms.{IsBounded, IsMemberList, IsWellFormed, hull, is_empty, only_number}
-use Rattle.ival.specs.Casts.{cast_of}
 use Rattle.ival.specs.declared.forms.Ival.{Ival}
-use Rattle.ival.specs.declared.forms.Ival.TheVariants.{Empty, Set, Range, All as Every}
+use Rattle.ival.specs.declared.forms.Ival.TheVariants.{Empty, Set}
 use Rattle.avalue.specs.Pointers.{ArePointers, IsPointer, Pointer}
 use Rattle.avalue.specs.Values.{IsWellFormedValue}
 use Rattle.avalue.specs.declared.value.Value.{Value}
-use Rattle.abstract_memory.specs.Values.{all_below, as_written, bit_ints, bit_number, has_no_pointers, is_plain, join_values, loose, loose_by, loose_join, nothing, of_ints, one_number}
+use Rattle.abstract_memory.specs.Values.{bit_ints, bit_number, has_no_pointers, is_plain, join_values, loose, loose_by, nothing, of_ints, one_number}
 use Rattle.abstract_memory.proofs.Ascending.{hull_members}
 use Rattle.abstract_memory.proofs.Formed.{one_formed}
 

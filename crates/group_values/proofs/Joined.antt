@@ -1,8 +1,8 @@
 -- What `avalue` answers is what the definitions say.
-use Rattle.std.proofs.Common.{◌≡◌, ℕ, List, sym, refl, ap, ◌∙◌, Bool, ℤ}
+use Rattle.std.proofs.Common.{◌≡◌, ℕ, List, sym, ap, ◌∙◌, Bool, ℤ}
 use Rattle.ival.specs.declared.forms.Ival.{Ival}
-use Rattle.ival.specs.SetOperations.{join_of, widen_of}
-use Rattle.avalue.specs.Pointers.{AreCombined, ArePointers, Pointer, merged, widened_offsets}
+use Rattle.ival.specs.SetOperations.{join_of}
+use Rattle.avalue.specs.Pointers.{AreCombined, Pointer, widened_offsets}
 use Rattle.avalue.specs.Values.{IsEscape, IsJoin, IsWellFormedValue, IsWidening, PointsIntoObjects}
 use Rattle.avalue.specs.declared.value.Value.{Value}
 use Rattle.abstract_memory.specs.Values.{escape_value, join_values, widen_values}

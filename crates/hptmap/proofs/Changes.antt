@@ -9,7 +9,7 @@ use Rattle.store_api.specs.Tree.{Tree, Nil, Node, depth, kid, shape_is}
 use Rattle.store_api.specs.Bag.{Bag, Trades, none, one, one_self}
 use Rattle.hptmap.specs.Trie.{leaf_shape, leaf, branch_shape, is_leaf, key_of, level_of, top_of, either, map_of, Within, split_at, IsBranch, IsTrie, IsMap, Adds, Removes, RemovesIn, left_shrunk, MapIn, map_out, right_shrunk}
 use Rattle.hptmap.proofs.Bits.{shorter, shorten, split_shorter, split_again, above_split}
-use Rattle.hptmap.proofs.Tries.{kids_of_trie, below_trie, key_small, level_small, leaf_of, branch_of, trie_leaf, trie_branch, no_nil, outside, within_own, within_more, prefix_low, prefix_high, depth_trie, either_none, none_either, map_branch, node_left, node_right, top_leaf, top_branch, leaf_or}
+use Rattle.hptmap.proofs.Tries.{kids_of_trie, below_trie, key_small, level_small, branch_of, trie_leaf, trie_branch, no_nil, outside, within_own, prefix_low, prefix_high, depth_trie, either_none, none_either, map_branch, node_left, node_right, top_branch}
 
 -- the trie of one key
 pub leaf_trie : (k : ℕ) (p : Tree) → k < 2 ^ 32 → depth p ≤ 95 → IsTrie (leaf k p)

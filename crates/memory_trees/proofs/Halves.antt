@@ -1,12 +1,12 @@
 -- What code uses of trees of blocks.
-use Rattle.std.proofs.Common.{ℕ, zero, suc, ◌+◌, ◌-◌, ◌*◌, ◌%◌, ◌^◌, ◌<◌, ◌≤◌, ◌≡◌, ◌≢◌, refl, sym, ap, subst, ◌∙◌, Bool, true, false, eqb, ltb, arith, rules, max, List, [], ◌∷◌}
+use Rattle.std.proofs.Common.{ℕ, zero, suc, ◌+◌, ◌-◌, ◌%◌, ◌^◌, ◌<◌, ◌≤◌, ◌≡◌, ◌≢◌, refl, sym, ap, subst, ◌∙◌, Bool, true, false, eqb, arith}
 use Rattle.std.specs.Prelude.{nat_lt, nat_le, ◌&&◌, ◌↔◌, IsTrue, if◌then◌else◌, slice_index}
 use Rattle.std.proofs.lemmas.Grind.{common_steps}
-use Rattle.std.proofs.Math.Nat.{mod-eq_of_lt, mod-lt, mod-add-mod}
+use Rattle.std.proofs.Math.Nat.{mod-lt, mod-add-mod}
 use Rattle.store_api.specs.declared.Shape.{Shape}
 use Rattle.store_api.specs.Tree.{Tree, Nil, Node, depth, kid, shape_is}
 use Rattle.memory_trees.specs.Values.{IsValueTree}
-use Rattle.memory_trees.specs.Blocks.{Piece, piece, Blocks, out, leaf, branch, advance, no_piece, piece_at, AreApart, IsCanonical, leaf_shape, branch_shape, out_shape, blocks_tree, node_blocks, blocks_of, IsBlock, IsBlocksTree, put_bit, Puts, Joins, IsLower, IsUpper, OneRun, ends, goes_on, Decides, lower_tree, upper_tree}
+use Rattle.memory_trees.specs.Blocks.{Piece, piece, Blocks, out, leaf, branch, advance, no_piece, piece_at, AreApart, IsCanonical, leaf_shape, branch_shape, out_shape, blocks_tree, blocks_of, IsBlock, IsBlocksTree, put_bit, Puts, Joins, IsLower, IsUpper, OneRun, ends, goes_on, Decides, lower_tree, upper_tree}
 
 -- How many subtrees a node has.
 abbrev pub kids_by : ℕ → ℕ

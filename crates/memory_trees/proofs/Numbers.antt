@@ -1,11 +1,11 @@
 -- An integer set comes back from its tree.
-use Rattle.std.proofs.Common.{◌≡◌, ℕ, zero, suc, ◌+◌, ◌-◌, ◌*◌, ◌/◌, ◌%◌, ◌^◌, ◌<◌, ◌≤◌, List, [], ◌∷◌, ◌++◌, length, take, get_or, sym, refl, ap, subst, ◌∙◌, ℤ, pos, negsuc, ◌+ℤ◌, ◌≤ℤ◌, Bool, true, false, arith}
+use Rattle.std.proofs.Common.{◌≡◌, ℕ, zero, suc, ◌+◌, ◌-◌, ◌/◌, ◌^◌, ◌<◌, ◌≤◌, List, [], ◌∷◌, length, take, refl, ap, ◌∙◌, ℤ, pos, negsuc, Bool, true, false, arith}
 use Rattle.store_api.specs.Tree.{Nil, Node}
 use Rattle.std.specs.Prelude.{eqb, nat_lt, unsigned_abs, if◌then◌else◌}
 use Rattle.std.specs.List.{All}
 use Rattle.std.proofs.lemmas.Bool.Decides.{nat_tests}
 use Rattle.std.proofs.lemmas.Int.{ints}
-use Rattle.std.proofs.lemmas.List.Elements.{All-get_or, All-cons, All-nil}
+use Rattle.std.proofs.lemmas.List.Elements.{All-nil}
 use Rattle.ival.specs.Numbers.{residue}
 use Rattle.ival.specs.Forms.{IsBounded, IsMemberList, IsProgression, IsWellFormed}
 use Rattle.ival.specs.declared.forms.Ival.{Ival}

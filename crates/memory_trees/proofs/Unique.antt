@@ -1,24 +1,22 @@
 -- Each object, and each state, has one tree.
-use Rattle.std.proofs.Common.{ℕ, zero, suc, ◌+◌, ◌-◌, ◌%◌, ◌^◌, ◌<◌, ◌≤◌, ◌≡◌, ◌≢◌, ◌⊎◌, inl, inr, refl, sym, ap, subst, ◌∙◌, Bool, true, false, eqb, cond, List, [], ◌∷◌, map, length, Option, Some, None, arith}
-use Rattle.std.specs.Prelude.{nat_lt, nat_le, if◌then◌else◌}
+use Rattle.std.proofs.Common.{ℕ, zero, suc, ◌+◌, ◌-◌, ◌%◌, ◌^◌, ◌<◌, ◌≤◌, ◌≡◌, refl, sym, ap, subst, ◌∙◌, Bool, true, false, eqb, cond, List, [], ◌∷◌, map, length, Option, Some, None, arith}
+use Rattle.std.specs.Prelude.{nat_lt, if◌then◌else◌}
 use Rattle.std.specs.Map.{lookup}
 use Rattle.std.proofs.Math.Nat.{mod-eq_of_lt, mod-lt, mod-add-mod}
 use Rattle.std.proofs.lemmas.Grind.{common_steps}
 use Rattle.store_api.specs.declared.Shape as store
-use Rattle.store_api.specs.Tree.{Tree, Nil, Node, kid, depth}
-use Rattle.hptmap.specs.Trie.{IsMap, IsTrie, map_of, entries}
+use Rattle.store_api.specs.Tree.{Tree, Nil, Node, kid}
+use Rattle.hptmap.specs.Trie.{IsMap, map_of, entries}
 use Rattle.hptmap.proofs.Canonical.{tries_equal, some_key}
 use Rattle.hptmap.proofs.Rising.{entries_map}
-use Rattle.ival.specs.declared.forms.Ival.{Ival}
 use Rattle.avalue.specs.declared.value.Value.{Value}
 use Rattle.abstract_memory.specs.Objects as object
-use Rattle.abstract_memory.specs.Objects.{Object, entry_at, listed}
-use Rattle.abstract_memory.specs.States.{Objects}
+use Rattle.abstract_memory.specs.Objects.{Object, entry_at}
 use Rattle.abstract_memory.proofs.Listed.{listed_at, listed_length}
-use Rattle.memory_trees.specs.Values.{IsIvalTree, IsValueNode, IsValueParts, IsValueTree, ival_of, ival_tree, is_nil, pointers_of, value_of, value_shape}
-use Rattle.memory_trees.specs.Blocks.{Piece, Blocks, out, leaf, branch, advance, no_piece, piece_at, AreApart, IsCanonical, IsBlock, IsBlocksTree, blocks_of, blocks_tree}
+use Rattle.memory_trees.specs.Values.{IsIvalTree, IsValueNode, IsValueParts, IsValueTree, ival_of, ival_tree, is_nil, value_of, value_shape}
+use Rattle.memory_trees.specs.Blocks.{Piece, Blocks, out, leaf, branch, advance, piece_at, AreApart, IsCanonical, IsBlock, IsBlocksTree, blocks_of, blocks_tree}
 use Rattle.memory_trees.specs.Objects.{IsObjectTree, IsSizedTree, ObjectsHaveOneTree, entry_of, level_of, object_of, size_in, sized, sized_object}
-use Rattle.memory_trees.specs.States.{IsStateTree, StatesHaveOneTree, objects_of}
+use Rattle.memory_trees.specs.States.{StatesHaveOneTree, objects_of}
 
 abbrev IsPiece : Piece → Type 0
 IsPiece e = (e.place < e.width) × (e.width ≤ 64) × IsValueTree e.value
