@@ -4,8 +4,11 @@ use Rattle.elab_findings.specs.declared.fault.Rule.TheVariants.{TypeError, OutOf
 use Rattle.c_types.specs.declared.types.IntKind.{IntKind}
 use Rattle.c_types.specs.declared.types.IntKind.TheVariants as kind
 use Rattle.c_types.specs.Integers.{width}
-use Rattle.elab_types.specs.declared.types.SourceType.{SourceType, out-SourceType}
+use Rattle.elab_types.specs.declared.types.Extent.{Extent}
+use Rattle.elab_types.specs.declared.types.Extent.TheVariants as extent
+use Rattle.elab_types.specs.declared.types.SourceType.{SourceType, end_of-SourceType, more_of-SourceType}
 use Rattle.elab_types.specs.declared.types.SourceType.TheOpen.{SourceType-F}
+use Rattle.elab_types.specs.declared.types.SourceType.TheVariants.{Pointer', Array', Function'}
 use Rattle.elab_types.specs.declared.types.SourceType.TheVariants as source
 use Rattle.elab_types.specs.Compatible.{same_kind}
 use Rattle.elab_environment.specs.declared.constant.Constant.{Constant}
@@ -47,20 +50,30 @@ width_by at t named c = no_width at
 
 -- ---- a member
 
--- 6.7.2.1p3, p18: a member is complete; an array without a length may stand last in a struct, behind a named member, and is
--- left out. A struct with such a member stands in no other struct.
-abbrev pub is_variable_array : TypeLevel → Bool
-is_variable_array (SourceType-F.Array t Rattle.elab_types.specs.declared.types.Extent.TheVariants.Variable) = true
-is_variable_array _ = false
+-- 6.7.6p3: an array whose length isn't constant, or a type derived from one
+abbrev pub is_variable : Extent → Bool
+is_variable extent.Variable = true
+is_variable _ = false
+
+unfoldable pub is_variably_modified : SourceType → Bool
+is_variably_modified (Pointer' _ (more_of-SourceType t end_of-SourceType) q) = is_variably_modified t
+is_variably_modified (Array' _ (more_of-SourceType t end_of-SourceType) n) = is_variable n || is_variably_modified t
+is_variably_modified (Function' _ (more_of-SourceType t end_of-SourceType) _ ts v) = is_variably_modified t
+is_variably_modified _ = false
+
+abbrev pub no_member : ℕ → Elaborating SourceType
+no_member at = refuse at TypeError >> pure source.Faulty
 
 abbrev pub closed_member : ℕ → Bool → SourceType → Environment → Elaborating SourceType
 closed_member at is_union t s = when (is_flexible s t && not is_union) (refuse at TypeError) >> pure t
 
+-- 6.7.6.2p2: a member isn't of a variably modified type. 6.7.2.1p3, p18: it is complete; an array without a length may stand
+-- last in a struct, behind a named member, and is left out. A struct with such a member stands in no other struct.
 abbrev pub member_type : ℕ → Bool → Bool → SourceType → Environment → Elaborating SourceType
 member_type at is_union may_be_open t s =
-    if may_be_open && is_open_array t then hold at OutOfProfile >> pure t
-    else (if is_complete s t && not (is_variable_array (out-SourceType t)) then closed_member at is_union t s
-    else refuse at TypeError >> pure source.Faulty)
+    if is_variably_modified t then no_member at
+    else (if may_be_open && is_open_array t then hold at OutOfProfile >> pure t
+    else (if is_complete s t then closed_member at is_union t s else no_member at))
 
 -- ---- enumerators (6.7.2.2)
 

@@ -1,5 +1,5 @@
 -- Conversions of operands, each of them explicit (C11 6.3).
-use Rattle.std.specs.Prelude.{ℕ, nat_lt, nat_le, ◌==◌, pos, Bool, true, false, not, ◌&&◌, ◌||◌, if◌then◌else◌, Option, Some, None}
+use Rattle.std.specs.Prelude.{ℕ, nat_lt, nat_le, ◌==◌, pos, Bool, false, not, ◌&&◌, ◌||◌, if◌then◌else◌, Option, Some, None, is_some}
 use Rattle.std.specs.Ordering.{int_eq}
 use Rattle.elab_findings.specs.declared.fault.Rule.TheVariants.{TypeError, ObjectTooLarge, OutOfProfile}
 use Rattle.c_types.specs.declared.types.IntKind.{IntKind}
@@ -8,20 +8,21 @@ use Rattle.c_types.specs.Integers.{is_signed, promoted, usual_of}
 use Rattle.c_types.specs.Sizes.{object_limit, size_of}
 use Rattle.elab_types.specs.declared.types.SourceType.{SourceType, out-SourceType}
 use Rattle.elab_types.specs.declared.types.SourceType.TheOpen.{SourceType-F}
-use Rattle.elab_types.specs.Qualified.{unqualified}
+use Rattle.elab_types.specs.Qualified.{no_qualifiers, unqualified}
 use Rattle.elab_types.specs.Translated.{ctype_of}
 use Rattle.elab_types.specs.declared.compatible.Likeness.TheVariants.{Compatible, ButForQualifiers}
-use Rattle.elab_types.specs.Compatible.{same_kind, alike}
+use Rattle.elab_types.specs.Compatible.{same_kind, same_qualifiers, alike}
 use Rattle.elab_environment.specs.declared.constant.Constant.{Constant}
 use Rattle.elab_environment.specs.declared.constant.Constant.TheVariants as constant
-use Rattle.elab_environment.specs.Elaborating.{Elaborating, ◌>>◌, pure}
+use Rattle.elab_environment.specs.Elaborating.{Elaborating, ◌>>=◌, ◌>>◌, pure}
 use Rattle.elab_environment.specs.Steps.{refuse, hold}
 use Rattle.elab_environment.specs.Complete.{is_complete}
 use Rattle.elab_rules.specs.declared.operand.Operand.{Operand}
-use Rattle.elab_rules.specs.declared.operand.Form.TheOpen.{Form-F}
 use Rattle.elab_rules.specs.declared.operand.Form.TheVariants as form
+use Rattle.elab_rules.specs.declared.operand.Sort.{Sort}
+use Rattle.elab_rules.specs.declared.operand.Sort.TheVariants as sort
 use Rattle.elab_rules.specs.Sorts.{TypeLevel, is_unusable, kind_of, is_void, is_function}
-use Rattle.elab_rules.specs.Operands.{FormLevel, level, form_of, operand, faulty, int_type, pointer_to, null_of, is_lvalue_at}
+use Rattle.elab_rules.specs.Operands.{operand, faulty, int_type, pointer_to, null_of, is_lvalue, is_null, function_named, element_of, is_pointer, sort_of}
 use Rattle.elab_rules.specs.Constants.{constant_value}
 
 abbrev pub type_error : ℕ → Elaborating Operand
@@ -35,30 +36,23 @@ left_out at = hold at OutOfProfile >> pure faulty
 abbrev pub loaded : Operand → Operand
 loaded x = record { ty = unqualified x.ty; bits = x.bits; is_register = false; form = form.Load x }
 
-abbrev pub value_by : TypeLevel → FormLevel → Operand → Elaborating Operand
-value_by (SourceType-F.Floating q) f x = pure faulty
-value_by SourceType-F.Faulty f x = pure faulty
-value_by t (Form-F.Function n at) x = left_out at
-value_by (SourceType-F.Array t n) f x = pure (operand (pointer_to t) (form.Start x))
-value_by t f x = pure (if is_lvalue_at f then loaded x else x)
+abbrev pub decayed : Option SourceType → Operand → Operand
+decayed (Some t) x = operand (pointer_to t) (form.Start x)
+decayed None x = if is_lvalue x.form then loaded x else x
+
+abbrev pub value_by : Option ℕ → Operand → Elaborating Operand
+value_by (Some at) x = left_out at
+value_by None x = pure (decayed (element_of x.ty) x)
 
 -- an array is the pointer to its first element, an lvalue what stands in it; a function may be called alone
 unfoldable pub value : Operand → Elaborating Operand
-value x = value_by (level x) (form_of x) x
+value x = if is_unusable x.ty then pure faulty else value_by (function_named x.form) x
 
 -- ---- casts that change the type
 
-abbrev pub is_null_at : FormLevel → Bool
-is_null_at Form-F.Null = true
-is_null_at _ = false
-
-abbrev pub is_pointer_at : TypeLevel → Bool
-is_pointer_at (SourceType-F.Pointer t q) = true
-is_pointer_at _ = false
-
 -- the same type as the program keeps it needs no cast; null stays null
 abbrev pub cast_to : SourceType → Operand → Operand
-cast_to t x = if is_null_at (form_of x) && is_pointer_at (out-SourceType t) then null_of t
+cast_to t x = if is_null x.form && is_pointer t then null_of t
     else (if alike Compatible x.ty t then x else operand t (form.Cast x))
 
 -- a conversion that is allowed
@@ -103,36 +97,55 @@ abbrev pub is_zero : Constant → Bool
 is_zero (constant.Number v) = int_eq v (pos 0)
 is_zero _ = false
 
-abbrev pub is_void_null_at : TypeLevel → Bool
-is_void_null_at (SourceType-F.Pointer t q) = is_void t
-is_void_null_at _ = false
+abbrev pub is_plain_void_at : TypeLevel → Bool
+is_plain_void_at (SourceType-F.Void q) = same_qualifiers q no_qualifiers
+is_plain_void_at _ = false
+
+abbrev pub is_plain_void : SourceType → Bool
+is_plain_void t = is_plain_void_at (out-SourceType t)
+
+abbrev pub is_plain_void_pointer_at : TypeLevel → Bool
+is_plain_void_pointer_at (SourceType-F.Pointer t q) = is_plain_void t
+is_plain_void_pointer_at _ = false
+
+abbrev pub is_plain_void_pointer : SourceType → Bool
+is_plain_void_pointer t = is_plain_void_pointer_at (out-SourceType t)
 
 -- 6.3.2.3p3: an integer constant expression with the value 0, or such a one cast to `void *`
 unfoldable pub is_null_constant : Operand → Bool
-is_null_constant x = if is_null_at (form_of x) then is_void_null_at (level x) else is_zero (constant_value x)
+is_null_constant x = if is_null x.form then is_plain_void_pointer x.ty else is_zero (constant_value x)
 
 -- ---- conversion as if by assignment (6.5.16.1), which may break a rule at a token
 
 abbrev pub is_bool : IntKind → Bool
 is_bool k = same_kind k kind.Bool
 
-abbrev pub assigned_by : ℕ → SourceType → TypeLevel → Operand → TypeLevel → Elaborating Operand
-assigned_by at t (SourceType-F.Int k q) x (SourceType-F.Int l r) = pure (converted t x)
-assigned_by at t (SourceType-F.Int k q) x (SourceType-F.Pointer u r) = if is_bool k then pure (converted t x) else left_out at
-assigned_by at t (SourceType-F.Pointer u q) x (SourceType-F.Pointer v r) = if converts_silently v u then pure (converted t x) else type_error at
-assigned_by at t (SourceType-F.Pointer u q) x (SourceType-F.Int l r) = if is_null_constant x then pure (null_of t) else left_out at
-assigned_by at t (SourceType-F.Struct s q) x (SourceType-F.Struct u r) = if s.0 == u.0 then pure x else type_error at
+abbrev pub null_assigned : ℕ → SourceType → Operand → Elaborating Operand
+null_assigned at t x = if is_null_constant x then pure (null_of t) else left_out at
+
+abbrev pub assigned_by : ℕ → SourceType → Sort → Operand → Sort → Elaborating Operand
+assigned_by at t (sort.Integer k) x (sort.Integer l) = pure (converted t x)
+assigned_by at t (sort.Integer k) x (sort.Pointer v) = if is_bool k then pure (converted t x) else left_out at
+assigned_by at t (sort.Pointer u) x (sort.Pointer v) = if converts_silently v u then pure (converted t x) else type_error at
+assigned_by at t (sort.Pointer u) x (sort.Integer l) = null_assigned at t x
+assigned_by at t (sort.Struct id) x (sort.Struct other) = if id.0 == other.0 then pure x else type_error at
 assigned_by at t _ x _ = type_error at
 
 unfoldable pub assigned : ℕ → SourceType → Operand → Elaborating Operand
 assigned at t x = if is_unusable t || is_unusable x.ty then pure faulty
-    else assigned_by at (unqualified t) (out-SourceType (unqualified t)) x (level x)
+    else assigned_by at (unqualified t) (sort_of t) x (sort_of x.ty)
 
 -- ---- sizes that are asked for
 
--- whether a complete type is small enough; it is noted where it isn't
-unfoldable pub is_sized : ℕ → SourceType → Elaborating Bool
-is_sized at t = λ s. if nat_lt object_limit (size_of s.layout (ctype_of t)) then (hold at ObjectTooLarge >> pure false) s else (true, s)
+abbrev pub sized_by : ℕ → ℕ → Elaborating (Option ℕ)
+sized_by at n = if nat_lt object_limit n then hold at ObjectTooLarge >> pure None else pure (Some n)
+
+-- the size of a complete type in bits; where it is too large for an object, that is noted
+unfoldable pub sized : ℕ → SourceType → Elaborating (Option ℕ)
+sized at t = λ s. sized_by at (size_of s.layout (ctype_of t)) s
+
+abbrev pub is_sized : ℕ → SourceType → Elaborating Bool
+is_sized at t = sized at t >>= (λ n. pure (is_some n))
 
 -- 6.5.6p2: the pointed-to type is a complete object type
 unfoldable pub steps_over : ℕ → SourceType → Elaborating Bool

@@ -1,6 +1,7 @@
 pub mod Sorts
 pub mod Operands
 pub mod Constants
+pub mod Addresses
 pub mod Conversions
 pub mod Operators
 pub mod Accesses

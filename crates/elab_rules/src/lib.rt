@@ -12,6 +12,6 @@ mod operators;
 mod types;
 
 pub use gathered::{Gathered, TypeWords};
-pub use operand::{Form, Operand};
+pub use operand::{Form, Operand, Sort, StaticValue};
 pub use operators::{Assigns, Binary, Unary};
 pub use types::{Brackets, Declared, Nearest, Parameter, Parameters, Specified, Storage, Where};

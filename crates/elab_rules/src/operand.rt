@@ -1,3 +1,4 @@
+use c_types::{IntKind, StructId};
 use elab_types::SourceType;
 use program::{BinOp, UnOp};
 use sqlite_items::{Boxed, Items};
@@ -40,7 +41,7 @@ pub enum Form {
     Start(Boxed<Operand>),
     Addr(Boxed<Operand>),
     Unary(UnOp, Boxed<Operand>),
-    /// `!` of a promoted operand or a pointer.
+    /// `!` of a scalar that is not promoted yet: a condition tests it in its own kind.
     Not(Boxed<Operand>),
     /// The operands stand in text order.
     Binary(BinOp, Boxed<Operand>, Boxed<Operand>),
@@ -58,4 +59,30 @@ pub enum Form {
     Call(u32, Items<Operand>),
     /// A cast to void.
     Discard(Boxed<Operand>),
+}
+
+/// What the rules on values ask of a type first.
+#[derive(Drop)]
+pub enum Sort {
+    Void,
+    Integer(IntKind),
+    /// A pointer, by what it points to.
+    Pointer(SourceType),
+    Struct(StructId),
+    Other,
+}
+
+/// What an expression is where the initial value of a static object is wanted (C11 6.6p7, 6.7.9p4).
+#[derive(Clone, Copy, Debug, Drop, PartialEq, Eq)]
+pub enum StaticValue {
+    Number(i128),
+    Null,
+    /// The address of an object of static storage duration, by its number, and so many bytes.
+    Address(u32, i128),
+    /// Its evaluation isn't defined.
+    Undefined,
+    /// It is no constant expression.
+    Variable,
+    /// It broke a rule already.
+    Faulty,
 }

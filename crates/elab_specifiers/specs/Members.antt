@@ -1,5 +1,5 @@
 -- A member of a struct or union, and an enumerator, once their types and constants were read (C11 6.7.2.1, 6.7.2.2).
-use Rattle.std.specs.Prelude.{ℕ, ℤ, Bool, List, None, is_some}
+use Rattle.std.specs.Prelude.{ℕ, Bool, List, None, is_some}
 use Rattle.elab_types.specs.declared.types.SourceType.{out-SourceType}
 use Rattle.elab_environment.specs.declared.constant.Constant.{Constant}
 use Rattle.elab_environment.specs.declared.state.Collected.{Collected}

@@ -10,12 +10,13 @@ ghost use Rattle.elab_rules.specs.Tags as tags;
 ghost use Rattle.elab_specifiers.specs.Members as read;
 
 use crate::checks::{hold_if, refuse_if};
+use crate::sorts::is_variably_modified;
 use c_tree::Spec;
 use c_types::{IntKind, width};
 use elab_environment::{Body, Collected, Constant, Entity, Environment, any_named, is_open_array};
 use elab_findings::Rule;
 use elab_rules::Declared;
-use elab_types::{Extent, SourceType, same_kind};
+use elab_types::{SourceType, same_kind};
 use sqlite_items::Items;
 use std::alloc::{AllocError, Global};
 
@@ -96,19 +97,6 @@ fn bit_width(
 
 // ---- members
 
-fn is_variable_array(t: &SourceType) -> bool
-    ensures { result ≡ spec.is_variable_array (out-SourceType t.now) }
-{
-    match t {
-        SourceType::Array(_, Extent::Variable) => true,
-        SourceType::Array(_, Extent::Length(_)) => false,
-        SourceType::Array(_, Extent::Unknown) => false,
-        SourceType::Void(_) | SourceType::Int(_, _) | SourceType::Pointer(_, _) => false,
-        SourceType::Struct(_, _) | SourceType::Function(_, _, _) => false,
-        SourceType::Floating(_) | SourceType::Faulty => false,
-    }
-}
-
 /// Where a member stands: the first token of its declarator, whether in a union, and whether last in a struct, behind a member
 /// with a name.
 #[derive(Clone, Copy, Debug, Drop, PartialEq, Eq)]
@@ -130,6 +118,13 @@ fn closed_member(
     Ok(t)
 }
 
+fn no_member(env: &mut Environment, at: u32) -> Result<SourceType, AllocError>
+    ensures { Gives (spec.no_member at env.old) result env.new }
+{
+    env.refuse(at, Rule::TypeError)?;
+    Ok(SourceType::Faulty)
+}
+
 /// The type of a member that is no bit-field.
 fn member_type(
     env: &mut Environment,
@@ -138,15 +133,17 @@ fn member_type(
 ) -> Result<SourceType, AllocError>
     ensures { Gives (spec.member_type place.at place.is_union place.may_be_open t env.old env.old) result env.new }
 {
+    if is_variably_modified(&t) {
+        return no_member(env, place.at);
+    }
     if place.may_be_open && is_open_array(&t) {
         env.hold(place.at, Rule::OutOfProfile)?;
         return Ok(t);
     }
-    if env.is_complete(&t) && !is_variable_array(&t) {
+    if env.is_complete(&t) {
         closed_member(env, place, t)
     } else {
-        env.refuse(place.at, Rule::TypeError)?;
-        Ok(SourceType::Faulty)
+        no_member(env, place.at)
     }
 }
 

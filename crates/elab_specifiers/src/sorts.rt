@@ -1,10 +1,11 @@
 //! The sorts of types (C11 6.2.5).
 
 ghost use Rattle.std.specs.Prelude.{◌≡◌};
+ghost use Rattle.elab_rules.specs.Bodies as bodies;
 ghost use Rattle.elab_rules.specs.Sorts as spec;
 ghost use Rattle.elab_rules.specs.Specifiers as specifiers;
 
-use elab_types::SourceType;
+use elab_types::{Extent, SourceType};
 
 /// Whether a type is a function type.
 #[tactic(auto, unfolding(elab_rules::specs::Sorts::is_function))]
@@ -54,5 +55,28 @@ pub fn takes_volatile(t: &SourceType) -> bool
         SourceType::Pointer(_, _) | SourceType::Array(_, _) | SourceType::Struct(_, _) => false,
         SourceType::Void(_) | SourceType::Int(_, _) | SourceType::Function(_, _, _) => true,
         SourceType::Floating(_) | SourceType::Faulty => true,
+    }
+}
+
+fn is_variable(n: Extent) -> bool
+    ensures { result ≡ bodies.is_variable n }
+{
+    match n {
+        Extent::Variable => true,
+        Extent::Unknown | Extent::Length(_) => false,
+    }
+}
+
+/// Whether a type is an array whose length isn't constant, or is derived from one.
+#[tactic(auto, using(crate::proofs::VariableEquations::variable_equations))]
+pub fn is_variably_modified(t: &SourceType) -> bool
+    ensures { result ≡ bodies.is_variably_modified t.now }
+{
+    match t {
+        SourceType::Pointer(to, _) => is_variably_modified(to.get()),
+        SourceType::Array(element, n) => is_variable(*n) || is_variably_modified(element.get()),
+        SourceType::Function(result, _, _) => is_variably_modified(result.get()),
+        SourceType::Void(_) | SourceType::Int(_, _) | SourceType::Struct(_, _) => false,
+        SourceType::Floating(_) | SourceType::Faulty => false,
     }
 }
