@@ -1,0 +1,12 @@
+pub mod Pushes
+pub mod Turns
+pub mod Joins
+pub mod Runs
+pub mod Calls
+pub mod Results
+pub mod Sound
+pub mod Bounds
+pub mod Budget
+pub mod Remaining
+pub mod Examples
+pub mod Lawfulness
