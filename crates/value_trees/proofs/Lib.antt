@@ -1,0 +1,5 @@
+pub mod Maps
+pub mod Sets
+pub mod Depths
+pub mod Spelling
+pub mod Trees

@@ -1,0 +1,30 @@
+use Rattle.std.proofs.Common.{◌∙◌, rules}
+use mir.Syntax.{w128}
+use Rattle.std.proofs.lemmas.Int.{to_z-of_z}
+use Rattle.std.specs.Int.RustNames.{FitsSigned}
+use Rattle.value_trees.proofs.Sets.{large_bounded, large_is}
+use Rattle.value_trees.proofs.integers.large_set.Goals as goal
+
+pub of_set-requires : goal.of_set-requires
+of_set-requires c =
+    let e1 = to_z-of_z w128 c.number_at.result (let fits : FitsSigned w128 c.number_at.result = search rules in fits) ∙ c.number_at.ensures in
+    let e2 = to_z-of_z w128 c.number_at-2.result (let fits : FitsSigned w128 c.number_at-2.result = search rules in fits) ∙ c.number_at-2.ensures in
+    let e3 = to_z-of_z w128 c.number_at-3.result (let fits : FitsSigned w128 c.number_at-3.result = search rules in fits) ∙ c.number_at-3.ensures in
+    let e4 = to_z-of_z w128 c.number_at-4.result (let fits : FitsSigned w128 c.number_at-4.result = search rules in fits) ∙ c.number_at-4.ensures in
+    let e5 = to_z-of_z w128 c.number_at-5.result (let fits : FitsSigned w128 c.number_at-5.result = search rules in fits) ∙ c.number_at-5.ensures in
+    let e6 = to_z-of_z w128 c.number_at-6.result (let fits : FitsSigned w128 c.number_at-6.result = search rules in fits) ∙ c.number_at-6.ensures in
+    let e7 = to_z-of_z w128 c.number_at-7.result (let fits : FitsSigned w128 c.number_at-7.result = search rules in fits) ∙ c.number_at-7.ensures in
+    let e8 = to_z-of_z w128 c.number_at-8.result (let fits : FitsSigned w128 c.number_at-8.result = search rules in fits) ∙ c.number_at-8.ensures in
+    large_bounded c.args.node.now c.args.more.now c.args.n _ _ _ _ _ _ _ _ e1 e2 e3 e4 e5 e6 e7 e8 c.requires.formed
+
+pub returns : goal.returns
+returns c =
+    let e1 = to_z-of_z w128 c.number_at.result (let fits : FitsSigned w128 c.number_at.result = search rules in fits) ∙ c.number_at.ensures in
+    let e2 = to_z-of_z w128 c.number_at-2.result (let fits : FitsSigned w128 c.number_at-2.result = search rules in fits) ∙ c.number_at-2.ensures in
+    let e3 = to_z-of_z w128 c.number_at-3.result (let fits : FitsSigned w128 c.number_at-3.result = search rules in fits) ∙ c.number_at-3.ensures in
+    let e4 = to_z-of_z w128 c.number_at-4.result (let fits : FitsSigned w128 c.number_at-4.result = search rules in fits) ∙ c.number_at-4.ensures in
+    let e5 = to_z-of_z w128 c.number_at-5.result (let fits : FitsSigned w128 c.number_at-5.result = search rules in fits) ∙ c.number_at-5.ensures in
+    let e6 = to_z-of_z w128 c.number_at-6.result (let fits : FitsSigned w128 c.number_at-6.result = search rules in fits) ∙ c.number_at-6.ensures in
+    let e7 = to_z-of_z w128 c.number_at-7.result (let fits : FitsSigned w128 c.number_at-7.result = search rules in fits) ∙ c.number_at-7.ensures in
+    let e8 = to_z-of_z w128 c.number_at-8.result (let fits : FitsSigned w128 c.number_at-8.result = search rules in fits) ∙ c.number_at-8.ensures in
+    large_is c.args.node.now c.args.more.now c.args.n _ _ _ _ _ _ _ _ _ e1 e2 e3 e4 e5 e6 e7 e8 c.requires.formed c.of_set.ensures.value
