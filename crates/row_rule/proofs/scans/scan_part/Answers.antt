@@ -1,0 +1,16 @@
+use Rattle.std.proofs.Common.{◌≡◌, ◌+◌, arith}
+use Rattle.row_rule.specs.Plays.{table, row_at}
+use Rattle.row_rule.proofs.Scanning.{scans_part_at}
+use Rattle.row_rule.proofs.scans.scan_part.Goals as goal
+
+pub load-requires : goal.load-requires
+load-requires g c = (
+  c.requires.fits.0,
+  omega (arith, c.row_word.ensures, c.requires.ready.words, c.requires.fits, c.requires.row, c.requires.part),
+  rw c.requires.ready.slots (scans_part_at (table c.args.words.now.key.buckets c.args.words.now.key.lines (g.R.Relate.about c.args.words.now.key.about) g.R.Relate.related)
+      c.args.seat.now.id c.args.seat.now.me c.requires.ready.mine _ c.requires.scan c.args.row c.args.part c.row_word.result (omega (arith, c.row_word.ensures, c.requires.fits)) c.requires.row c.requires.part c.requires.inside),
+)
+
+pub returns-clause-view : goal.returns-clause-view
+returns-clause-view g c = let w : row_at c.args.seat.now.me.0 c.args.row (1 + c.args.part) ≡ c.row_word.result = omega (arith, c.row_word.ensures, c.requires.fits, c.requires.ready.sizes) in
+    rw w (c.load.ensures.2 c.args.row c.args.part c.requires.part (omega (arith, c.row_word.ensures, c.requires.fits, c.requires.ready.sizes)))

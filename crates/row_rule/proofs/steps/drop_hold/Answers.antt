@@ -1,0 +1,19 @@
+use Rattle.std.proofs.Common.{◌≡◌, sym, arith}
+use Rattle.row_rule.specs.Plays.{table, row_at}
+use Rattle.row_rule.proofs.Allowed.{gives_at}
+use Rattle.row_rule.proofs.steps.drop_hold.Goals as goal
+
+pub fetch_sub-requires : goal.fetch_sub-requires
+fetch_sub-requires g c = (
+  c.requires.fits.0,
+  omega (arith, c.row_word.ensures, c.requires.ready.words, c.requires.row, c.requires.fits),
+  rw c.requires.ready.slots (gives_at (table c.args.words.now.key.buckets c.args.words.now.key.lines (g.R.Relate.about c.args.words.now.key.about) g.R.Relate.related)
+      c.args.seat.now.id c.args.seat.now.me c.requires.ready.mine c.args.row c.row_word.result (omega (arith, c.row_word.ensures, c.requires.fits)) c.requires.held),
+)
+
+pub returns-clause-found : goal.returns-clause-found
+returns-clause-found g c = (c.fetch_sub.ensures.2.0 c.args.row (omega (arith, c.row_word.ensures, c.requires.fits, c.requires.ready.sizes))).0
+
+pub returns-clause-view : goal.returns-clause-view
+returns-clause-view g c = λ m e. let w : row_at c.args.seat.now.me.0 c.args.row 0 ≡ c.row_word.result = omega (arith, c.row_word.ensures, c.requires.fits, c.requires.ready.sizes) in
+    rw w ((c.fetch_sub.ensures.2.0 c.args.row (sym w)).1 m e)
