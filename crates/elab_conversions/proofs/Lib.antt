@@ -1,0 +1,2 @@
+pub mod ConstantEquations
+pub mod Kept
